@@ -1,0 +1,28 @@
+-- Worked examples, computed: row 12 of 01's table, the number of its flow file (8.0 as bits), and the ends of 64 bits. Assumes nothing.
+use Prim.Native.Nat.{ℕ}
+use mathlib.Core.Path.{_≡_, refl}
+use mathlib.Core.List.{[], _∷_}
+use Rattle.groups.specs.declared.Reading.the-variants.{Number, Fault}
+use Rattle.groups.specs.Groups.{groups, numberAt}
+
+row-12 : (groups 127 ≡ 0x7f ∷ []) × (groups 128 ≡ 0x80 ∷ 0x01 ∷ []) × (numberAt (0x80 ∷ 0x00 ∷ []) 0 ≡ Fault 0)
+unfolding groups numberAt
+row-12 = (refl, refl, refl)
+
+eight : groups 0x4020000000000000 ≡ 0x80 ∷ 0x80 ∷ 0x80 ∷ 0x80 ∷ 0x80 ∷ 0x80 ∷ 0x80 ∷ 0x90 ∷ 0x40 ∷ []
+unfolding groups
+eight = refl
+
+-- the largest number, and one more: ten groups each
+largest : numberAt (0xff ∷ 0xff ∷ 0xff ∷ 0xff ∷ 0xff ∷ 0xff ∷ 0xff ∷ 0xff ∷ 0xff ∷ 0x01 ∷ []) 0 ≡ Number 0xffffffffffffffff 10
+unfolding numberAt
+largest = refl
+
+too-large : numberAt (7 ∷ 0x80 ∷ 0x80 ∷ 0x80 ∷ 0x80 ∷ 0x80 ∷ 0x80 ∷ 0x80 ∷ 0x80 ∷ 0x80 ∷ 0x02 ∷ []) 1 ≡ Fault 1
+unfolding numberAt
+too-large = refl
+
+-- the bytes end inside a number, and before it
+cut : (numberAt (7 ∷ 0x80 ∷ []) 1 ≡ Fault 1) × (numberAt (7 ∷ []) 1 ≡ Fault 1)
+unfolding numberAt
+cut = (refl, refl)

@@ -1,0 +1,7 @@
+-- The laws of numbers in groups of seven, and what the two loops rest on.
+pub mod Strings
+pub mod Shortest
+pub mod Numbers
+mod ReadLoop
+mod WriteLoop
+mod Examples

@@ -1,0 +1,75 @@
+-- What the string of a number looks like, and what stands at the front of some bytes, group by group. Assumes nothing.
+use Prim.Native.Nat.{ℕ, zero, suc, pred, _+_, _*_, _-_, _/_, _%_, _≤_, _<_}
+use native.Mathlib.Omega.{arith}
+use mathlib.Core.Path.{_≡_, refl, sym, ap, _∙_}
+use mathlib.Core.Bool.{Bool, true, false}
+use mathlib.Core.List.{List, [], _∷_, _++_}
+use lib.ListN.{length}
+use lib.Dec.{ltb, eqb}
+use borrow.Author.Tests.{lt-ltb, le-ltb, ltb-true, ltb-false, ne-eqb, eq-eqb}
+use Rattle.groups.specs.Groups.{groupsIn, groups, Front, some, none, before, front}
+
+-- Whatever holds of a number of one group, and of a longer one where it holds of the groups after the first, holds of every number.
+module _ (P : ℕ → Type 0) (one : (x : ℕ) → x < 128 → P x) (more : (x : ℕ) → 128 ≤ x → P (x / 128) → P x) where
+  by-size : (k x : ℕ) (t : Bool) → ltb x 128 ≡ t → x ≤ suc k → ((y : ℕ) → y ≤ k → P y) → P x
+  by-size k x true e h ih = one x (ltb-true x 128 e)
+  by-size k x false e h ih = more x (ltb-false x 128 e) (ih (x / 128) (omega (arith, ltb-false x 128 e)))
+
+  up-to : (k x : ℕ) → x ≤ k → P x
+  up-to zero x h = one x (omega arith)
+  up-to (suc k) x h = by-size k x (ltb x 128) refl h (up-to k)
+
+  pub by-groups : (x : ℕ) → P x
+  by-groups x = up-to x x (omega arith)
+
+-- ---- the string of a number
+
+in-one : (k x : ℕ) → x < 128 → groupsIn k x ≡ x ∷ []
+unfolding groupsIn
+in-one zero x h = refl
+in-one (suc k) x h = rw (lt-ltb x 128 h, groupsIn)
+
+in-more : (k x : ℕ) → 128 ≤ x → groupsIn (suc k) x ≡ (128 + x % 128) ∷ groupsIn k (x / 128)
+unfolding groupsIn
+in-more k x h = rw (le-ltb x 128 h, groupsIn)
+
+-- any first number that is at least x gives the same groups
+enough : (x k : ℕ) → x ≤ k → groupsIn k x ≡ groups x
+unfolding groups
+enough = by-groups (λ (x : ℕ). (k : ℕ) → x ≤ k → groupsIn k x ≡ groupsIn x x)
+    (λ x h k l. in-one k x h ∙ sym (in-one x x h))
+    (λ x h ih k l.
+    let k-is : k ≡ suc (pred k) = omega arith in
+    let x-is : x ≡ suc (pred x) = omega arith in
+    let step : (j : ℕ) → x ≤ suc j → groupsIn (suc j) x ≡ (128 + x % 128) ∷ groupsIn (x / 128) (x / 128) =
+    λ j g. in-more j x h ∙ ap (λ (w : List ℕ). (128 + x % 128) ∷ w) (ih j (omega arith)) in
+    ap (λ (j : ℕ). groupsIn j x) k-is ∙ step (pred k) (omega arith)
+    ∙ sym (ap (λ (j : ℕ). groupsIn j x) x-is ∙ step (pred x) (omega arith)))
+
+pub groups-one : (x : ℕ) → x < 128 → groups x ≡ x ∷ []
+unfolding groups
+groups-one x h = in-one x x h
+
+pub groups-more : (x : ℕ) → 128 ≤ x → groups x ≡ (128 + x % 128) ∷ groups (x / 128)
+groups-more x h =
+    let x-is : x ≡ suc (pred x) = omega arith in
+    sym (enough x x (omega arith))
+    ∙ ap (λ (j : ℕ). groupsIn j x) x-is
+    ∙ in-more (pred x) x h
+    ∙ ap (λ (w : List ℕ). (128 + x % 128) ∷ w) (enough (x / 128) (pred x) (omega arith))
+
+-- ---- what stands at the front
+
+pub before-some : (low v n : ℕ) → (v ≡ 0 → ⊥) → before low (some v n) ≡ some (low + v * 128) (suc n)
+before-some low v n h = simp (ne-eqb v 0 h)
+
+pub before-zero : (low v n : ℕ) → v ≡ 0 → before low (some v n) ≡ none
+before-zero low v n h = simp (eq-eqb v 0 h)
+
+pub front-one : (b : ℕ) (bs : List ℕ) → b < 128 → front (b ∷ bs) ≡ some b 1
+unfolding front
+front-one b bs h = rw (lt-ltb b 128 h, front)
+
+pub front-more : (b : ℕ) (bs : List ℕ) → 128 ≤ b → front (b ∷ bs) ≡ before (b % 128) (front bs)
+unfolding front
+front-more b bs h = rw (le-ltb b 128 h, front)

@@ -1,0 +1,83 @@
+-- `groups::write_number` meets its contract. `Writes` of proofs/WriteLoop.antt is the loop's invariant. Assumes nothing.
+use Prim.Native.Nat.{ℕ, _+_, _≤_, _<_}
+use native.Mathlib.Omega.{arith}
+use mathlib.Core.Path.{_≡_, refl, sym, ap, _∙_}
+use mathlib.Core.List.{List}
+use borrow.Author.Needs.{needs}
+use borrow.Author.Tests.{lt-leb, le-leb}
+use lib.ListN.{length, length-set}
+use Rattle.groups.specs.declared.Writing.the-variants.{Bytes, Short}
+use Rattle.groups.specs.Groups.{groups}
+use Rattle.groups.proofs.WriteLoop.{Writes, top-bit-fits, writes-starts, writes-length, writes-room, writes-on, writes-all, writes-ends}
+use Rattle.groups.proofs.write_number.Statement.{statement}
+use Rattle.groups.proofs.write_number.Tie as tie
+
+abbrev Inv-loop : tie.InvT-loop
+Inv-loop out₀ x rest₀ i₀ out rest i = Writes x out₀ out rest i
+
+abbrev μ-loop : tie.MeasureT-loop
+μ-loop out₀ x rest₀ i₀ out rest i = rest
+
+count-groups-requires : tie.Need-count-groups-requires Inv-loop μ-loop
+count-groups-requires c κs = search needs
+
+returns : tie.Need-returns Inv-loop μ-loop
+returns c =
+    let short = lt-leb (length (groups (c .before .before .before .args .x))) (length (c .before .before .before .args .out .now)) (omega (arith, c .before .count-groups .ensures)) in
+    simp short (refl, refl)
+
+loop-holds : tie.Need-loop-holds Inv-loop μ-loop
+loop-holds c = writes-starts (c .before .before .before .args .x) (c .before .before .before .args .out .now) (omega (arith, c .before .count-groups .ensures))
+
+cast-out : tie.Need-cast-out Inv-loop μ-loop
+cast-out c = record { fits = top-bit-fits (c .before .loop .rest) }
+
+slice-write-out : tie.Need-slice-write-out Inv-loop μ-loop
+slice-write-out c = writes-room (c .before .loop .inv)
+
+add-i : tie.Need-add-i Inv-loop μ-loop
+add-i c = omega (arith, writes-room (c .before .loop .inv))
+
+loop-less : tie.Need-loop-less Inv-loop μ-loop
+loop-less c = omega arith
+
+loop-again : tie.Need-loop-again Inv-loop μ-loop
+loop-again c = writes-on (c .before .loop .inv) (c .loop-test .taken)
+
+cast-out-2 : tie.Need-cast-out-2 Inv-loop μ-loop
+cast-out-2 c = omega arith
+
+slice-write-out-2 : tie.Need-slice-write-out-2 Inv-loop μ-loop
+slice-write-out-2 c = writes-room (c .before .loop .inv)
+
+add-t5 : tie.Need-add-t5 Inv-loop μ-loop
+add-t5 c = omega (arith, writes-room (c .before .loop .inv))
+
+same-length : tie.Need-same-length Inv-loop μ-loop
+same-length c = simp length-set (writes-length (c .before .loop .inv))
+
+returns-2 : tie.Need-returns-2 Inv-loop μ-loop
+returns-2 c =
+    let w = c .before .loop .inv in
+    let room = le-leb (length (groups (c .before .before .before .before .before .args .x))) (length (c .before .before .before .before .before .args .out .now)) (w .filling .room) in
+    simp room (ap Bytes (writes-all w (c .loop-test .left)), writes-ends w (c .loop-test .left))
+
+pub write-number-spec : {M : Type 1} → statement M
+write-number-spec =
+    tie.close
+    (tie.spec
+    Inv-loop
+    μ-loop
+    count-groups-requires
+    returns
+    loop-holds
+    cast-out
+    slice-write-out
+    add-i
+    loop-less
+    loop-again
+    cast-out-2
+    slice-write-out-2
+    add-t5
+    same-length
+    returns-2)

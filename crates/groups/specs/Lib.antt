@@ -1,0 +1,2 @@
+-- What a number in groups of seven is.
+pub mod Groups

@@ -1,0 +1,14 @@
+-- What a lent slice holds after its front was written. Definitions only.
+use mathlib.Core.Bool.{cond}
+use mathlib.Core.List.{List, _++_}
+use lib.ListN.{length, drop}
+use lib.Dec.{leb}
+
+module _ {A : Type 0} where
+  -- xs at the front, and past the last entry written what lay there before (01, 'The charts', last sentence)
+  abbrev pub atFront : List A → List A → List A
+  atFront xs old = xs ++ drop (length xs) old
+
+  -- the same where the slice is long enough; a shorter one is as it came (01, refusal 6)
+  abbrev pub atFrontIfRoom : List A → List A → List A
+  atFrontIfRoom xs old = cond (leb (length xs) (length old)) (atFront xs old) old

@@ -1,0 +1,2 @@
+-- Definitions that more than one part cites.
+pub mod Front
