@@ -1,2 +1,3 @@
 -- Laws that more than one part cites.
+pub mod Bits
 pub mod Filling

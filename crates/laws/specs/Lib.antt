@@ -1,2 +1,5 @@
 -- Definitions that more than one part cites.
+pub mod Bools
+pub mod Bits
+pub mod Refusals
 pub mod Front

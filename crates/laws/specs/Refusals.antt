@@ -1,0 +1,8 @@
+-- Refusals in an order (01, 'Numbers a call may give back', Order). Definitions only.
+use mathlib.Core.Bool.{Bool, cond}
+use mathlib.Core.List.{List, [], _∷_}
+
+-- the first of the cases that applies, or else what is done where none does
+unfoldable pub firstOf : {A : Type 0} → List (Bool × A) → A → A
+firstOf [] done = done
+firstOf (c ∷ cs) done = cond (c .0) (c .1) (firstOf cs done)
