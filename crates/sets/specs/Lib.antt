@@ -1,0 +1,2 @@
+-- What a rule set is.
+pub mod Sets
