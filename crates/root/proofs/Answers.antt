@@ -1,20 +1,20 @@
 -- What is allowed at each kind of bit pattern. Assumes nothing.
-use mathlib.Core.Path.{_≡_, refl, sym, ap, _∙_, subst}
+use mathlib.Core.Path.{_≡_, refl, sym, ap, _∙_}
 use mathlib.Core.Bool.{Bool, true, false, not, cond, _&&_, false≢true, true≢false}
 use mathlib.Core.Logic.{⊎-elim}
 use Prim.Native.Nat.{ℕ, zero, suc, _+_, _*_, _/_, _%_, _^_, _≤_, _<_}
-use native.Mathlib.Nat.{zero-mul, mul-pos, lt-irrefl}
+use native.Mathlib.Nat.{mul-pos}
 use native.Mathlib.Omega.{arith}
 use borrow.Author.Tests.{eq-eqb}
 use lib.Dec.{T, eqb}
 use lib.Pow.{pow-pos}
 use lib.Ieee.{Float, nan, inf, fin, binary64, odd, up, down, ofBits, ofFields, isNan, ne, eq, level}
-use lib.Ieee.Fits.{down-pos}
 use lib.Ieee.Exact.{HasValue, odd-sign}
 use lib.Ieee.Positive.{positive}
 use Rattle.root.specs.Root.{IsRoot, Allowed, done, refusal}
 use Rattle.root.specs.Steps.{infinity}
 use Rattle.root.proofs.Patterns.{below-or-from, unsigned, signed, subnormal, normal, beyond}
+use Rattle.root.proofs.Value.{no-zero}
 
 -- ---- a number above 0, and the zeros
 pub allowed-root : (x r : Float) → T (positive x) → IsRoot x r → Allowed x (done r)
@@ -51,17 +51,16 @@ refused-negative (inf s) a c v h = absurd v
 refused-negative (fin false zero e) a c v h = absurd (false≢true (v .0))
 refused-negative (fin false (suc m) e) a c v h = absurd (false≢true (v .0))
 refused-negative (fin true (suc m) e) a c v h = refl
-refused-negative (fin true zero e) a c v h =
-    absurd (lt-irrefl 0 (subst (λ (y : ℕ). 0 < y) (sym (v .1) ∙ ap (λ (y : ℕ). y * c) (zero-mul (up e)) ∙ zero-mul c) (mul-pos h (down-pos e))))
+refused-negative (fin true zero e) a c v h = absurd (no-zero e a c h (v .1))
+
+refused-odd : (q k : ℕ) → 0 < q → Allowed (odd 53 true q k 1074) refusal
+refused-odd q k h = refused-negative (odd 53 true q k 1074) (q * 2 ^ k) (2 ^ 1074) (odd-sign 53 true q k 1074) (mul-pos h (pow-pos k))
 
 -- with the sign bit set: either the exponent's field is not 0, or the digits are not
 refused-fields : (x t : ℕ) → x < 2048 → (x ≡ 0 → 0 < t) → Allowed (ofFields binary64 true x t) refusal
-refused-fields zero t h p =
-    rw subnormal (refused-negative (odd 53 true t 0 1074) (t * 2 ^ 0) (2 ^ 1074) (odd-sign 53 true t 0 1074) (mul-pos (p refl) (pow-pos 0)))
+refused-fields zero t h p = rw subnormal (refused-odd t 0 (p refl))
 refused-fields (suc x) t h p = ⊎-elim
-    (λ (g : suc x < 2047).
-    rw (normal true x t g)
-    (refused-negative (odd 53 true (2 ^ 52 + t) x 1074) ((2 ^ 52 + t) * 2 ^ x) (2 ^ 1074) (odd-sign 53 true (2 ^ 52 + t) x 1074) (mul-pos (omega arith) (pow-pos x))))
+    (λ (g : suc x < 2047). rw (normal true x t g) (refused-odd (2 ^ 52 + t) x (omega arith)))
     (λ (g : 2047 ≤ suc x).
     let e : suc x ≡ 2047 = omega arith in
     rw e (refused-beyond true t))

@@ -1,5 +1,5 @@
 -- The function `rootOf` gives the answer that is allowed, and the only one. Assumes nothing.
-use mathlib.Core.Path.{_≡_, refl, sym, ap, _∙_}
+use mathlib.Core.Path.{_≡_, refl, ap, _∙_}
 use mathlib.Core.Bool.{Bool, true, false, not, cond}
 use Prim.Native.Nat.{ℕ, zero, suc, _+_, _-_, _*_, _/_, _^_, _≤_, _<_}
 use native.Mathlib.Nat.{le-trans, le-antisymm, mul-le-mul-right, mul-div-cancel, pow-suc}
@@ -47,7 +47,8 @@ unfolding rootAt
 rootAt-is {n} {s} {p} f =
     let k : (size n - 109) / 2 ≡ half p = rw (size-is f) (omega arith) in
     let a : n / 4 ^ (half p + 1) ≡ lead s p * 2 ^ 54 = rw (halved f) (mul-div-cancel (lead s p * 2 ^ 54) (four-positive (half p + 1))) in
-    ap (λ (j : ℕ). odd 53 false (rounded (floorRoot 54 (n / 4 ^ (j + 1)))) j 589) k ∙ ap (λ (y : ℕ). odd 53 false (rounded (floorRoot 54 y)) (half p) 589) a
+    ap (λ (j : ℕ). odd 53 false (rounded (floorRoot 54 (n / 4 ^ (j + 1)))) j 589) k
+    ∙ ap (λ (y : ℕ). odd 53 false (rounded (floorRoot 54 y)) (half p) 589) a
 
 rootAt-root : (x : Float) {s p : ℕ} → Form (scaled x) s p → IsRoot x (rootAt (scaled x))
 rootAt-root x {s} {p} f =

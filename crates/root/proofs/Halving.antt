@@ -1,15 +1,18 @@
 -- The exponent halved: a number of the form s * 2^(p + 55) is a * 2^54 * 4^(k + 1), so the root of a * 2^54 gives the number's. Assumes nothing.
-use mathlib.Core.Path.{_≡_, refl, sym, ap, _∙_}
+use mathlib.Core.Path.{_≡_, sym, _∙_}
 use mathlib.Core.Bool.{false}
 use Prim.Native.Nat.{ℕ, _+_, _-_, _*_, _/_, _%_, _^_, _≤_, _<_}
 use native.Mathlib.Nat.{mul-assoc, mul-one, le-trans, le-of-eq, mul-le-mul-left}
 use native.Mathlib.Omega.{arith}
 use lib.Pow.{pow-add, pow-pos, pow-mono}
-use lib.Ieee.{Float, odd}
+use lib.Ieee.{Float, binary64, odd}
+use lib.Ieee.Bits.{ofBits-fits}
+use lib.Ieee.Exact.{odd-sign}
 use Rattle.root.specs.Root.{scaled, IsRoot}
 use Rattle.root.specs.Steps.{Form}
 use Rattle.root.proofs.Squares.{four-is}
 use Rattle.root.proofs.Nearest.{Whole, rounded, rounded-least, rounded-most, passes-lower, passes-upper}
+use Rattle.root.proofs.Patterns.{bits-of}
 
 -- s or 2 * s, so that the power left over is one of 4
 abbrev pub lead : ℕ → ℕ → ℕ
@@ -45,12 +48,14 @@ whole {n} {s} {p} R f w = record { least = lead-least s p (f .least); most = lea
 pub found : (x : Float) (s p R : ℕ) → Form (scaled x) s p → WholeRoot s p R → IsRoot x (odd 53 false (rounded R) (half p) 589)
 found x s p R f r =
     let w = whole R f r in
+    let bits = bits-of (rounded R) (half p) (rounded-least w) (rounded-most w) (omega (arith, f .last)) in
     record {
       m = rounded R;
       k = half p;
       least = rounded-least w;
       most = rounded-most w;
-      is = refl;
+      format = rw (← bits) (ofBits-fits binary64 ((half p + 485) * 2 ^ 52 + rounded R));
+      value = odd-sign 53 false (rounded R) (half p) 589;
       below = rw (halved f) (passes-lower w (half p));
       above = rw (halved f) (passes-upper w (half p));
     }

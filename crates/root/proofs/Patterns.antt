@@ -3,13 +3,13 @@ use mathlib.Core.Path.{_≡_, refl, sym, ap, _∙_, subst}
 use mathlib.Core.Bool.{Bool, true, false, not, cond}
 use mathlib.Core.Logic.{_⊎_, inl, inr, ⊎-elim}
 use Prim.Native.Nat.{ℕ, zero, suc, _+_, _-_, _*_, _/_, _%_, _^_, _≤_, _<_}
-use native.Mathlib.Nat.{mul-one, mul-pos, mod-eq-of-lt, lt-irrefl, lt-of-not-le, add-right-comm}
+use native.Mathlib.Nat.{mul-pos, mod-eq-of-lt, lt-irrefl, lt-of-not-le, add-right-comm}
 use native.Mathlib.Decide.{decLe}
 use native.Mathlib.Omega.{arith}
-use borrow.Author.Tests.{le-leb, lt-leb, le-ltb, leb-true, leb-false, ne-eqb}
+use borrow.Author.Tests.{le-leb, lt-leb, le-ltb, ne-eqb}
 use lib.Count.{trailingZeros}
-use lib.Dec.{T, leb, eqb}
-use lib.IntN.{ℤ, pos, negsuc}
+use lib.Dec.{T, eqb}
+use lib.IntN.{ℤ}
 use lib.Pow.{pow-pos}
 use lib.Ieee.{nan, inf, fin, binary64, odd, minus, ofBits, ofFields, nanBits}
 use lib.Ieee.Bits.{nanBits-above}
@@ -61,9 +61,13 @@ value-normal b l h =
 
 pub above-zero : (b : ℕ) → 0 < b → b < infinity → T (positive (ofBits binary64 b))
 above-zero b l h = ⊎-elim
-    (λ (g : b < 2 ^ 52). positive-of-value (ofBits binary64 b) (b * 2 ^ 0) (2 ^ 1074) (value-subnormal b g) (mul-pos l (pow-pos 0)))
-    (λ (g : 2 ^ 52 ≤ b). positive-of-value (ofBits binary64 b) ((2 ^ 52 + b % 2 ^ 52) * 2 ^ (b / 2 ^ 52 - 1)) (2 ^ 1074) (value-normal b g h) (mul-pos (omega arith) (pow-pos (b / 2 ^ 52 - 1))))
+    (λ (g : b < 2 ^ 52). value (b * 2 ^ 0) (value-subnormal b g) (mul-pos l (pow-pos 0)))
+    (λ (g : 2 ^ 52 ≤ b).
+    value ((2 ^ 52 + b % 2 ^ 52) * 2 ^ (b / 2 ^ 52 - 1)) (value-normal b g h) (mul-pos (omega arith) (pow-pos (b / 2 ^ 52 - 1))))
     (below-or-from b (2 ^ 52))
+  where
+    value : (a : ℕ) → HasValue (ofBits binary64 b) false a (2 ^ 1074) → 0 < a → T (positive (ofBits binary64 b))
+    value a = positive-of-value (ofBits binary64 b) a (2 ^ 1074)
 
 pub not-nan : (b : ℕ) → b < infinity → T (not (nanBits binary64 b))
 not-nan b h = rw (nanBits-above binary64 b, le-ltb infinity (b % 2 ^ 63) (omega arith)) tt

@@ -1,37 +1,21 @@
 -- `scaled`: x * 4^591 is a whole number for each finite f64, so the division in its definition leaves nothing; and above 0 it is s * 2^(p + 55) with
 -- s of 53 binary digits. Assumes nothing.
 use mathlib.Core.Path.{_≡_, refl, sym, ap, _∙_, subst}
-use mathlib.Core.Bool.{Bool, _&&_}
-use Prim.Native.Nat.{ℕ, suc, _+_, _-_, _*_, _/_, _%_, _^_, _≤_, _<_}
-use native.Mathlib.Nat.{
-  mul-assoc,
-  mul-right-comm,
-  mul-one,
-  one-mul,
-  le-trans,
-  le-of-eq,
-  le-of-suc-le-suc,
-  lt-of-le-of-lt,
-  lt-of-lt-of-le,
-  lt-of-not-le,
-  lt-of-mul-lt-mul-right,
-  mul-lt-mul-of-pos-right,
-  mul-le-mul-right,
-  mul-div-cancel,
-  not-le-of-lt,
-  zero-lt-suc,
-}
+use mathlib.Core.Bool.{Bool}
+use Prim.Native.Nat.{ℕ, suc, _+_, _-_, _*_, _/_, _^_, _≤_, _<_}
+use native.Mathlib.Nat.{mul-assoc, mul-right-comm, mul-one, one-mul, le-of-suc-le-suc, lt-of-le-of-lt, lt-of-not-le, lt-of-mul-lt-mul-right, mul-lt-mul-of-pos-right, mul-le-mul-right, mul-div-cancel, not-le-of-lt, zero-lt-suc}
 use native.Mathlib.Omega.{arith}
-use lib.Dec.{T, leb, ltb, eqb, leb→le, ltb→lt}
+use lib.Dec.{T}
 use lib.IntN.{ℤ, pos, negsuc}
 use lib.Pow.{pow-add, pow-mono, pow-lt, shl-lt}
 use lib.Ieee.{Float, nan, inf, fin, binary64, size, fits, up, down}
 use lib.Ieee.Digits.{size-lt, size-le, size-reaches}
 use lib.Ieee.Exact.{HasValue}
-use lib.Ieee.Fits.{and-l, and-r, down-pos}
+use lib.Ieee.Fits.{down-pos}
 use Rattle.root.specs.Root.{scaled}
 use Rattle.root.specs.Steps.{Form}
 use Rattle.root.proofs.Squares.{four-positive}
+use Rattle.root.proofs.Format.{fitting}
 
 -- ---- the value, times 4^591
 
@@ -105,19 +89,11 @@ formed q j some small far fits =
 
 -- every finite f64 above 0
 pub form-of : (s : Bool) (m : ℕ) (e : ℤ) → T (fits binary64 (fin s (suc m) e)) → (t : ℕ) × (p : ℕ) × Form (scaled (fin s (suc m) e)) t p
-unfolding fits
 form-of s m e t =
     let q = suc m in
-    let A = eqb (q % 2) 1 in
-    let B = ltb q (2 ^ 53) in
-    let C = leb (down e) (2 ^ 1074) in
-    let D = ltb (q * up e) (2 ^ 1024 * down e) in
-    let abc : T (A && B && C) = and-l (A && B && C) D t in
-    let small : q < 2 ^ 53 = ltb→lt q (2 ^ 53) (and-r A B (and-l (A && B) C abc)) in
-    let fine : down e ≤ 2 ^ 1074 = leb→le (down e) (2 ^ 1074) (and-r (A && B) C abc) in
-    let below : q * up e < 2 ^ 1024 * down e = ltb→lt (q * up e) (2 ^ 1024 * down e) (and-r (A && B && C) D t) in
-    let j = units e fine .0 + 108 in
-    let wide : scaled (fin s q e) * down e < 2 ^ 2206 * down e =
-    rw (scaled-exact s q e fine) (lt-of-lt-of-le (mul-lt-mul-of-pos-right below (four-positive 591)) (le-of-eq (mul-right-comm (2 ^ 1024) (down e) (4 ^ 591)))) in
-    let fits : q * 2 ^ j < 2 ^ 2206 = rw (scaled-is s q e fine) at (lt-of-mul-lt-mul-right (down e) wide) in
-    (q * 2 ^ (52 - (size q - 1)), j + (size q - 1) - 107, rw (scaled-is s q e fine) (formed q j (zero-lt-suc m) small (omega arith) fits))
+    let g = fitting s m e t in
+    let j = units e (g .fine) .0 + 108 in
+    let is = scaled-is s q e (g .fine) in
+    let limit : q * up e * 4 ^ 591 < 2 ^ 2206 * down e = rw (← mul-right-comm (2 ^ 1024) (down e) (4 ^ 591)) (mul-lt-mul-of-pos-right (g .bounded) (four-positive 591)) in
+    let under : scaled (fin s q e) < 2 ^ 2206 = lt-of-mul-lt-mul-right (down e) (rw (scaled-exact s q e (g .fine)) limit) in
+    (q * 2 ^ (52 - (size q - 1)), j + (size q - 1) - 107, rw is (formed q j (zero-lt-suc m) (g .short) (omega arith) (rw is at under)))

@@ -19,10 +19,10 @@ use Rattle.root.proofs.Patterns.{value-subnormal, value-normal, bits-of
 -- ---- `place`
 
 -- the digits that a pattern holds, and how many zeros stand before them
-abbrev pub kept : ℕ → ℕ
+abbrev kept : ℕ → ℕ
 kept b = bitAnd b 0xfffffffffffff
 
-abbrev pub count : ℕ → ℕ
+abbrev count : ℕ → ℕ
 count b = leadingZeros 64 (kept b)
 
 module _ (b : ℕ) (some : 0 < b) (low : b / 2 ^ 52 ≡ 0) where
@@ -62,13 +62,13 @@ places-normal b l h =
     ap (λ (y : ℕ). bitOr y 0x10000000000000) (and-mask b 52) ∙ or-shifted-r 1 52 t (omega arith) ∙ sym (mul-one q) in
     let p : b / 2 ^ 52 + 52 ≡ x + 108 + 52 - 107 = omega arith in
     let value : scaled (ofBits binary64 b) ≡ q * 2 ^ (x + 108) =
-    scaled-units (ofBits binary64 b) false (q * 2 ^ x) (value-normal b l h) ∙ mul-assoc q (2 ^ x) (2 ^ 108) ∙ ap (λ (y : ℕ). q * y) (sym (pow-add 2 x 108)) in
+    scaled-units (ofBits binary64 b) false (q * 2 ^ x) (value-normal b l h) ∙ rw (pow-add 2 x 108) (mul-assoc q (2 ^ x) (2 ^ 108)) in
     rw (digits, p, value) f
 
 -- ---- `root_bits`
 
 -- the `lead` of `Halving.antt`
-abbrev pub shifted : ℕ → ℕ → ℕ
+abbrev shifted : ℕ → ℕ → ℕ
 shifted s p = s * 2 ^ (1 - bitAnd p 1) % 2 ^ 64
 
 shifted-is : (s p : ℕ) → s < 2 ^ 53 → shifted s p ≡ lead s p

@@ -32,18 +32,18 @@ ended a {rest} {rem} {r} {i} t h =
 -- ---- the numbers of a turn, as the code writes them
 
 -- the remainder, with two more digits of the number brought down
-abbrev pub brought : ℕ → ℕ → ℕ
+abbrev brought : ℕ → ℕ → ℕ
 brought rem rest = bitOr (rem * 4 % 2 ^ 64) (rest / 2 ^ 62)
 
 -- what is taken away where the root's next digit is 1
-abbrev pub trial : ℕ → ℕ
+abbrev trial : ℕ → ℕ
 trial r = bitOr (r * 4 % 2 ^ 64) 1
 
 -- whether it is, as a Bool and as a number
-abbrev pub goes : ℕ → ℕ → ℕ → Bool
+abbrev goes : ℕ → ℕ → ℕ → Bool
 goes rest rem r = leb (trial r) (brought rem rest)
 
-abbrev pub digit : ℕ → ℕ → ℕ → ℕ
+abbrev digit : ℕ → ℕ → ℕ → ℕ
 digit rest rem r = boolByte (goes rest rem r)
 
 four-more : (w i : ℕ) → w * 4 ^ (i + 1) ≡ 4 * (w * 4 ^ i)
@@ -116,4 +116,5 @@ module _ {w rest rem r i : ℕ} (t : Turn w rest rem r i) (more : i < 54) where
       let y = r * 4 + 1 in
       let u = rem * 4 + rest / 2 ^ 62 in
       let fits : trial r < 2 ^ 64 = omega (arith, trial-is t, digits-fit t) in
-      rw (masked (trial r) k (goes rest rem r) fits h e, longer-is t (goes rest rem r), brought-is t, trial-is t) (turn-by (leb y u) (leb→le y u) (nleb→lt y u))
+      rw (masked (trial r) k (goes rest rem r) fits h e, longer-is t (goes rest rem r), brought-is t, trial-is t)
+      (turn-by (leb y u) (leb→le y u) (nleb→lt y u))

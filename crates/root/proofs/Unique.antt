@@ -5,6 +5,7 @@ use Prim.Native.Nat.{ℕ, zero, suc, _+_, _-_, _*_, _^_, _≤_, _<_}
 use native.Mathlib.Nat.{
   mul-left-comm,
   mul-assoc,
+  mul-pos,
   lt-trans,
   mul-le-mul-right,
   lt-of-not-le,
@@ -15,10 +16,11 @@ use native.Mathlib.Nat.{
 }
 use native.Mathlib.Omega.{arith}
 use lib.Dec.{T, eqb, eqb-refl}
-use lib.Pow.{pow-mono}
-use lib.Ieee.{Float, nan, inf, fin, odd}
+use lib.Pow.{pow-mono, pow-pos}
+use lib.Ieee.{Float, nan, inf, fin}
 use Rattle.root.specs.Root.{lower, upper, IsRoot, Allowed, Answer, done}
 use Rattle.root.proofs.Squares.{square-back, square-scaled, two-next}
+use Rattle.root.proofs.Value.{value-unique}
 
 -- ---- the bounds of the tests are squares of multiples of 2^k
 low : ℕ → ℕ
@@ -86,7 +88,8 @@ pub root-unique : (x r r′ : Float) → IsRoot x r → IsRoot x r′ → r ≡ 
 root-unique x r r′ p q =
     let k : p .k ≡ q .k = le-antisymm (no-higher p q) (no-higher q p) in
     let m : p .m ≡ q .m = le-antisymm (not-more p q k) (not-more q p (sym k)) in
-    p .is ∙ rw (m, k) (sym (q .is))
+    value-unique r r′ (q .m * 2 ^ q .k) (2 ^ 589) (mul-pos (omega (arith, q .least)) (pow-pos (q .k))) (pow-pos 589) (p .format) (q .format)
+    (rw (m, k) at (p .value)) (q .value)
 
 pub allowed-unique : (x : Float) (a b : Answer) → Allowed x a → Allowed x b → a ≡ b
 unfolding Allowed

@@ -3,9 +3,10 @@
 use mathlib.Core.Path.{_≡_}
 use mathlib.Core.Bool.{true, false, cond}
 use Prim.Native.Nat.{ℕ, zero, suc, _+_, _-_, _*_, _/_, _^_, _≤_, _<_}
-use lib.Dec.{eqb, leb}
+use lib.Dec.{T, eqb, leb}
 use lib.IntN.{pos}
-use lib.Ieee.{Float, nan, inf, fin, up, down, odd, size}
+use lib.Ieee.{Float, nan, inf, fin, binary64, fits, up, down, odd, size}
+use lib.Ieee.Exact.{HasValue}
 use Rattle.root.specs.declared.Rooted.{Rooted}
 use Rattle.root.specs.declared.Rooted.the-variants.{Root, Refused}
 
@@ -29,14 +30,14 @@ lower m k = cond (eqb m (2 ^ 52)) ((4 * m - 1) * (4 * m - 1) * 4 ^ k) ((2 * m - 
 unfoldable pub upper : ℕ → ℕ → ℕ
 upper m k = (2 * m + 1) * (2 * m + 1) * 4 ^ (k + 1)
 
--- "For finite x > 0 the answer is m * 2^e with 2^52 <= m < 2^53", and the two tests. `odd 53 false m k 589` is the Float m * 2^k / 2^589
--- (`is-value`).
+-- "For finite x > 0 the answer is m * 2^e with 2^52 <= m < 2^53", and the two tests. r is the f64 whose value is m * 2^k / 2^589.
 pub record IsRoot (x r : Float) : Type 0 where
   pub m : ℕ
   pub k : ℕ
   pub least : 2 ^ 52 ≤ m
   pub most : m < 2 ^ 53
-  pub is : r ≡ odd 53 false m k 589
+  pub format : T (fits binary64 r)
+  pub value : HasValue r false (m * 2 ^ k) (2 ^ 589)
   pub below : lower m k < scaled x
   pub above : scaled x < upper m k
 
