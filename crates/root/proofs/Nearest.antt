@@ -1,11 +1,11 @@
 -- From the whole part of a root, with one digit more than an f64 holds, to the nearest f64: half of it, rounded up, passes the two tests.
 -- Assumes nothing.
 use mathlib.Core.Path.{_≡_}
-use mathlib.Core.Bool.{Bool, true, false, cond}
 use Prim.Native.Nat.{ℕ, _+_, _-_, _*_, _/_, _^_, _≤_, _<_}
-use native.Mathlib.Nat.{mul-assoc, mul-left-comm, lt-of-lt-of-le, lt-of-le-of-lt, mul-lt-mul-of-pos-right}
+use native.Mathlib.Nat.{mul-assoc, mul-left-comm, le-of-eq, lt-of-lt-of-le, lt-of-le-of-lt, mul-lt-mul-of-pos-right}
+use native.Mathlib.Decide.{decLe}
 use native.Mathlib.Omega.{arith}
-use lib.Dec.{T, eqb, eqb→eq}
+use borrow.Author.Tests.{eq-eqb, ne-eqb}
 use Rattle.root.specs.Root.{lower, upper}
 use Rattle.root.proofs.Squares.{square-mono, square-back, square-odd, four-next, four-positive}
 
@@ -50,21 +50,13 @@ module _ {a R : ℕ} (w : Whole a R) where
       let lt : (2 * q + 1) * (2 * q + 1) < a * 2 ^ 54 = omega (arith, w .under, le, square-odd q) in
       rw is lt
 
-  under-least : rounded R ≡ 2 ^ 52 → (4 * rounded R - 1) * (4 * rounded R - 1) < 4 * (a * 2 ^ 54)
-  under-least e =
-      let lt : (2 ^ 54 - 1) * (2 ^ 54 - 1) < 4 * (a * 2 ^ 54) = omega (arith, w .least) in
-      rw e lt
-
   pub passes-lower : (k : ℕ) → lower (rounded R) k < a * 2 ^ 54 * 4 ^ (k + 1)
   unfolding lower
-  passes-lower k = either (eqb m (2 ^ 52)) (eqb→eq m (2 ^ 52))
+  passes-lower k = either (decLe (rounded R) (2 ^ 52))
     where
-      m : ℕ
-      m = rounded R
-
-      either : (b : Bool) → (T b → rounded R ≡ 2 ^ 52)
-          → cond b ((4 * rounded R - 1) * (4 * rounded R - 1) * 4 ^ k) ((2 * rounded R - 1) * (2 * rounded R - 1) * 4 ^ (k + 1)) < a * 2 ^ 54 * 4 ^ (k + 1)
-      either true e =
-          rw (four-next, mul-left-comm (a * 2 ^ 54) 4 (4 ^ k), ← mul-assoc 4 (a * 2 ^ 54) (4 ^ k))
-          (mul-lt-mul-of-pos-right (under-least (e tt)) (four-positive k))
-      either false e = mul-lt-mul-of-pos-right under-it (four-positive (k + 1))
+      either : Dec (rounded R ≤ 2 ^ 52) → lower (rounded R) k < a * 2 ^ 54 * 4 ^ (k + 1)
+      either (yes h) =
+          let e : rounded R ≡ 2 ^ 52 = omega (arith, rounded-least) in
+          rw (eq-eqb (rounded R) (2 ^ 52) e, e, four-next, mul-left-comm (a * 2 ^ 54) 4 (4 ^ k), ← mul-assoc 4 (a * 2 ^ 54) (4 ^ k))
+          (mul-lt-mul-of-pos-right (omega (arith, w .least)) (four-positive k))
+      either (no f) = rw (ne-eqb (rounded R) (2 ^ 52) (λ (e : rounded R ≡ 2 ^ 52). f (le-of-eq e))) (mul-lt-mul-of-pos-right under-it (four-positive (k + 1)))

@@ -22,7 +22,7 @@ use Rattle.root.proofs.Patterns.{value-subnormal, value-normal, bits-of
 abbrev kept : ℕ → ℕ
 kept b = bitAnd b 0xfffffffffffff
 
-abbrev count : ℕ → ℕ
+abbrev pub count : ℕ → ℕ
 count b = leadingZeros 64 (kept b)
 
 module _ (b : ℕ) (some : 0 < b) (low : b / 2 ^ 52 ≡ 0) where

@@ -27,7 +27,7 @@ wrapping-sub-u64-requires c κs = tt
 sub-rem : tie.Need-sub-rem Inv-loop μ-loop
 sub-rem c =
     let k = c .wrapping-sub-u64 in
-    turned (c .before .before .loop .inv) (c .before .loop-test .taken) (k .result) (omega (arith, k .ok)) (k .ensures) .0
+    turned (c .before .before .loop .inv) (omega (arith, c .before .loop-test .taken)) (k .result) (omega (arith, k .ok)) (k .ensures) .0
 
 add-i : tie.Need-add-i Inv-loop μ-loop
 add-i c = omega arith
@@ -38,10 +38,10 @@ loop-less c = omega arith
 loop-again : tie.Need-loop-again Inv-loop μ-loop
 loop-again c =
     let k = c .wrapping-sub-u64 in
-    turned (c .before .before .loop .inv) (c .before .loop-test .taken) (k .result) (omega (arith, k .ok)) (k .ensures) .1
+    turned (c .before .before .loop .inv) (omega (arith, c .before .loop-test .taken)) (k .result) (omega (arith, k .ok)) (k .ensures) .1
 
 returns : tie.Need-returns Inv-loop μ-loop
-returns c = ended (c .before .before .args .a) (c .before .loop .inv) (c .loop-test .left)
+returns c = ended (c .before .before .args .a) (c .before .loop .inv) (omega (arith, c .loop-test .left))
 
 pub digits-spec : {M : Type 1} → statement M
 digits-spec = tie.close (tie.spec Inv-loop μ-loop loop-holds cast-d wrapping-sub-u64-requires sub-rem add-i loop-less loop-again returns)

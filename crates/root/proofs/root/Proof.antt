@@ -49,7 +49,7 @@ returns-2 c = by-zero (c .before .before .args .x) 0 (held (c .before .before)) 
 returns-3 : tie.Need-returns-3
 returns-3 c =
     let s = c .before .before .before in
-    by-zero (s .args .x) 0x8000000000000000 (held s) (c .if3 .taken) allowed-minus-zero
+    by-zero (s .args .x) 0x8000000000000000 (held s) (omega (arith, c .if3 .taken)) allowed-minus-zero
 
 root-bits-requires : tie.Need-root-bits-requires
 root-bits-requires c κs = search needs

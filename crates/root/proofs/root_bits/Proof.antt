@@ -1,4 +1,5 @@
 -- `root::root_bits` meets its contract, by what `place` and `digits` ensure and `Steps.antt` makes of it. Assumes nothing.
+use native.Mathlib.Omega.{arith}
 use borrow.Author.Needs.{needs}
 use lib.Bits.{and-le-r}
 use Rattle.root.proofs.Steps.{shifted-fits, root-fits, finished}
@@ -20,7 +21,7 @@ digits-requires c κs = shifted-fits (c .place .result .s) (c .place .result .p)
 add-m : tie.Need-add-m
 add-m c =
     let at = c .before .place in
-    record { fits = root-fits (c .before .before .args .b) (at .result .s) (at .result .p) (c .digits .result) (at .ensures) (c .digits .ensures) }
+    omega (arith, root-fits (c .before .before .args .b) (at .result .s) (at .result .p) (c .digits .result) (at .ensures) (c .digits .ensures))
 
 sub-result : tie.Need-sub-result
 sub-result c = search needs
