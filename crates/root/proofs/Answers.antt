@@ -1,5 +1,5 @@
 -- What is allowed at each kind of bit pattern. Assumes nothing.
-use mathlib.Core.Path.{_≡_, refl, sym, ap, _∙_}
+use mathlib.Core.Path.{_≡_, refl, sym, ap, _∙_, subst}
 use mathlib.Core.Bool.{Bool, true, false, not, cond, _&&_, false≢true, true≢false}
 use mathlib.Core.Logic.{⊎-elim}
 use Prim.Native.Nat.{ℕ, zero, suc, _+_, _*_, _/_, _%_, _^_, _≤_, _<_}
@@ -11,7 +11,7 @@ use lib.Pow.{pow-pos}
 use lib.Ieee.{Float, nan, inf, fin, binary64, odd, up, down, ofBits, ofFields, isNan, ne, eq, level}
 use lib.Ieee.Exact.{HasValue, odd-sign}
 use lib.Ieee.Positive.{positive}
-use Rattle.root.specs.Root.{IsRoot, Allowed, done, refusal}
+use Rattle.root.specs.Root.{IsRoot, Allowed, Answer, done, refusal}
 use Rattle.root.specs.Steps.{infinity}
 use Rattle.root.proofs.Patterns.{below-or-from, unsigned, signed, subnormal, normal, beyond}
 use Rattle.root.proofs.Value.{no-zero}
@@ -95,3 +95,22 @@ unfolding ne eq isNan
 number nan h = absurd (true≢false h)
 number (inf s) h = tt
 number (fin s m e) h = tt
+
+-- ---- an answer that is not the refusal has a number
+pub not-refused : (r : Float) → done r ≡ refusal → ⊥
+not-refused r e = let z : _≡_ {A = ℕ} 0 3 = ap (λ (a : Answer). a .0) e in omega arith
+
+number-of-value : (r : Float) (s : Bool) (a c : ℕ) → HasValue r s a c → T (not (isNan r))
+unfolding isNan
+number-of-value nan s a c v = absurd v
+number-of-value (inf t) s a c v = absurd v
+number-of-value (fin t m e) s a c v = tt
+
+pub allowed-number : (x r : Float) → Allowed x (done r) → T (not (isNan r))
+unfolding Allowed isNan
+allowed-number nan r p = absurd (not-refused r p)
+allowed-number (inf s) r p = absurd (not-refused r p)
+allowed-number (fin true (suc m) e) r p = absurd (not-refused r p)
+allowed-number (fin s zero e) r p = subst (λ (y : Float). T (not (isNan y))) (sym (ap (λ (a : Answer). a .1) p)) tt
+allowed-number (fin false (suc m) e) r (q, is, i) =
+    subst (λ (y : Float). T (not (isNan y))) (sym (ap (λ (a : Answer). a .1) is)) (number-of-value q false (i .m * 2 ^ i .k) (2 ^ 589) (i .value))

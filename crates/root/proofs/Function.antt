@@ -1,5 +1,5 @@
 -- The function `rootOf` gives the answer that is allowed, and the only one. Assumes nothing.
-use mathlib.Core.Path.{_≡_, refl, ap, _∙_}
+use mathlib.Core.Path.{_≡_, refl, sym, ap, _∙_}
 use mathlib.Core.Bool.{Bool, true, false, not, cond}
 use Prim.Native.Nat.{ℕ, zero, suc, _+_, _-_, _*_, _/_, _^_, _≤_, _<_}
 use native.Mathlib.Nat.{le-trans, le-antisymm, mul-le-mul-right, mul-div-cancel, pow-suc}
@@ -16,6 +16,7 @@ use Rattle.root.proofs.Squares.{square-next, square-twice, square-odd, 
 use Rattle.root.proofs.Nearest.{rounded}
 use Rattle.root.proofs.Unique.{allowed-unique}
 use Rattle.root.proofs.Scaled.{top-digit, form-of}
+use Rattle.root.proofs.Answers.{not-refused}
 use Rattle.root.proofs.Halving.{lead, half, lead-most, halved, found}
 
 -- ---- `floorRoot` is the whole part of the root
@@ -68,8 +69,8 @@ allowed-rootOf (fin false (suc m) e) t =
 -- two answers with 01's same number and value are the same
 numbered-one : (a b : Rooted) → numbered a ≡ numbered b → a ≡ b
 numbered-one (Root r) (Root q) e = ap Root (ap (λ (p : Answer). p .1) e)
-numbered-one (Root r) Refused e = absurd (let n : _≡_ {A = ℕ} 0 3 = ap (λ (p : Answer). p .0) e in omega arith)
-numbered-one Refused (Root q) e = absurd (let n : _≡_ {A = ℕ} 3 0 = ap (λ (p : Answer). p .0) e in omega arith)
+numbered-one (Root r) Refused e = absurd (not-refused r e)
+numbered-one Refused (Root q) e = absurd (not-refused q (sym e))
 numbered-one Refused Refused e = refl
 
 pub rootOf-only : (x : Float) (a : Rooted) → T (fits binary64 x) → Allowed x (numbered a) → a ≡ rootOf x

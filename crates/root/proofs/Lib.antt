@@ -5,10 +5,10 @@ pub mod Nearest
 pub mod Patterns
 pub mod Format
 pub mod Value
+pub mod Answers
 pub mod Unique
 pub mod Scaled
 pub mod Halving
 pub mod Function
-pub mod Answers
 pub mod Steps
 pub mod Examples
