@@ -15,7 +15,7 @@ use Rattle.root.specs.Steps.{Form}
 use Rattle.root.proofs.Squares.{square-next, square-twice, square-odd, four-positive}
 use Rattle.root.proofs.Nearest.{rounded}
 use Rattle.root.proofs.Unique.{allowed-unique}
-use Rattle.root.proofs.Scaled.{top-digit, form-of}
+use Rattle.root.proofs.Form.{top-digit, form-of}
 use Rattle.root.proofs.Answers.{not-refused}
 use Rattle.root.proofs.Halving.{lead, half, lead-most, halved, found}
 

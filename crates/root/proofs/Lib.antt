@@ -8,6 +8,7 @@ pub mod Value
 pub mod Answers
 pub mod Unique
 pub mod Scaled
+pub mod Form
 pub mod Halving
 pub mod Function
 pub mod Steps

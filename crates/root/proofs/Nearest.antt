@@ -59,4 +59,6 @@ module _ {a R : ℕ} (w : Whole a R) where
           let e : rounded R ≡ 2 ^ 52 = omega (arith, rounded-least) in
           rw (eq-eqb (rounded R) (2 ^ 52) e, e, four-next, mul-left-comm (a * 2 ^ 54) 4 (4 ^ k), ← mul-assoc 4 (a * 2 ^ 54) (4 ^ k))
           (mul-lt-mul-of-pos-right (omega (arith, w .least)) (four-positive k))
-      either (no f) = rw (ne-eqb (rounded R) (2 ^ 52) (λ (e : rounded R ≡ 2 ^ 52). f (le-of-eq e))) (mul-lt-mul-of-pos-right under-it (four-positive (k + 1)))
+      either (no f) =
+          rw (ne-eqb (rounded R) (2 ^ 52) (λ (e : rounded R ≡ 2 ^ 52). f (le-of-eq e)))
+          (mul-lt-mul-of-pos-right under-it (four-positive (k + 1)))

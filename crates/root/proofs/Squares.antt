@@ -11,11 +11,13 @@ use native.Mathlib.Nat.{
   one-le-pow,
   zero-lt-suc,
   mul-le-mul,
+  le-of-suc-le-suc,
   lt-of-not-le,
   not-le-of-lt,
 }
 use native.Mathlib.Numerals.{add-one}
 use native.Mathlib.Omega.{arith}
+use lib.Pow.{pow-lt, pow-mono}
 
 -- ---- squares
 pub square-next : (r : ℕ) → (r + 1) * (r + 1) ≡ r * r + 2 * r + 1
@@ -36,6 +38,12 @@ square-back a b h = lt-of-not-le (λ (g : b ≤ a). not-le-of-lt h (square-mono 
 -- ---- powers
 pub two-next : (i : ℕ) → 2 ^ (i + 1) ≡ 2 * 2 ^ i
 two-next i = rw add-one (omega (arith, pow-suc 2 i))
+
+pub power-lt-back : (a b : ℕ) → 2 ^ a < 2 ^ b → a < b
+power-lt-back a b h = lt-of-not-le (λ (g : b ≤ a). not-le-of-lt h (pow-mono g))
+
+pub power-le-back : (a b : ℕ) → 2 ^ a ≤ 2 ^ b → a ≤ b
+power-le-back a b h = le-of-suc-le-suc (lt-of-not-le (λ (g : b < a). not-le-of-lt (pow-lt g) h))
 
 pub four-next : (i : ℕ) → 4 ^ (i + 1) ≡ 4 * 4 ^ i
 four-next i = rw add-one (omega (arith, pow-suc 4 i))

@@ -12,7 +12,8 @@ use lib.Ieee.{binary64, ofBits}
 use Rattle.root.specs.Root.{scaled}
 use Rattle.root.specs.Steps.{infinity, Places, RootBits}
 use Rattle.root.proofs.Nearest.{rounded, few, rounded-least, rounded-most}
-use Rattle.root.proofs.Scaled.{scaled-units, form-up}
+use Rattle.root.proofs.Scaled.{scaled-units}
+use Rattle.root.proofs.Form.{form-up}
 use Rattle.root.proofs.Halving.{lead, half, lead-most, WholeRoot, whole, found}
 use Rattle.root.proofs.Patterns.{value-subnormal, value-normal, bits-of}
 

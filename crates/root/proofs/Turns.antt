@@ -46,9 +46,6 @@ goes rest rem r = leb (trial r) (brought rem rest)
 abbrev digit : ℕ → ℕ → ℕ → ℕ
 digit rest rem r = boolByte (goes rest rem r)
 
-four-more : (w i : ℕ) → w * 4 ^ (i + 1) ≡ 4 * (w * 4 ^ i)
-four-more w i = rw four-next (mul-left-comm w 4 (4 ^ i))
-
 -- ---- the same as sums: nothing is shifted out at the top
 
 shifted : (x j d : ℕ) → d < 2 ^ j → x * 2 ^ j < 2 ^ 64 → bitOr (x * 2 ^ j % 2 ^ 64) d ≡ x * 2 ^ j + d
@@ -81,6 +78,10 @@ module _ {w rest rem r i : ℕ} (t : Turn w rest rem r i) where
   longer-is b = shifted r 1 (boolByte b) (one-bit b) (omega (arith, digits-fit)) ∙ omega arith
 
 -- ---- a turn
+four-more : (w i : ℕ) → w * 4 ^ (i + 1) ≡ 4 * (w * 4 ^ i)
+four-more w i = rw four-next (mul-left-comm w 4 (4 ^ i))
+
+-- what a turn asks, that it takes away no more than there is, and what it gives
 abbrev Turned : (w rest i brought taken root : ℕ) → Type 0
 Turned w rest i brought taken root = (taken ≤ brought) × Turn w (rest * 4 % 2 ^ 64) (brought - taken) root (i + 1)
 

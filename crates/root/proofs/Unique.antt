@@ -1,6 +1,7 @@
 -- The two tests leave one answer: two roots of a number are equal, and so are two answers that `Allowed` allows. Assumes nothing.
-use mathlib.Core.Path.{_≡_, sym, ap, _∙_, subst}
+use mathlib.Core.Path.{_≡_, refl, sym, ap, _∙_}
 use mathlib.Core.Bool.{Bool, true, false, cond}
+use mathlib.Core.Logic.{_⊎_, inl, inr, ⊎-elim}
 use Prim.Native.Nat.{ℕ, zero, suc, _+_, _-_, _*_, _^_, _≤_, _<_}
 use native.Mathlib.Nat.{
   mul-left-comm,
@@ -15,7 +16,8 @@ use native.Mathlib.Nat.{
   pow-suc,
 }
 use native.Mathlib.Omega.{arith}
-use lib.Dec.{T, eqb, eqb-refl}
+use borrow.Author.Tests.{eqb-true, eqb-false}
+use lib.Dec.{eqb}
 use lib.Pow.{pow-mono, pow-pos}
 use lib.Ieee.{Float, nan, inf, fin}
 use Rattle.root.specs.Root.{lower, upper, IsRoot, Allowed, Answer, done}
@@ -32,34 +34,36 @@ high m = 2 * (2 * m + 1)
 square-further : (c k : ℕ) → c * c * 4 ^ (k + 1) ≡ 2 * c * 2 ^ k * (2 * c * 2 ^ k)
 square-further c k = square-scaled c (k + 1) ∙ ap (λ (x : ℕ). x * x) (rw two-next (mul-left-comm c 2 (2 ^ k) ∙ sym (mul-assoc 2 c (2 ^ k))))
 
-lower-square : (m k : ℕ) → lower m k ≡ low m * 2 ^ k * (low m * 2 ^ k)
+-- the lower bound, where m is the least and where it is not
+abbrev AtLeast : (m k : ℕ) → Type 0
+AtLeast m k = (m ≡ 2 ^ 52) × (low m ≡ 4 * m - 1) × (lower m k ≡ (4 * m - 1) * (4 * m - 1) * 4 ^ k)
+
+abbrev Above : (m k : ℕ) → Type 0
+Above m k = (m ≡ 2 ^ 52 → ⊥) × (low m ≡ 2 * (2 * m - 1)) × (lower m k ≡ (2 * m - 1) * (2 * m - 1) * 4 ^ (k + 1))
+
+low-is : (m k : ℕ) → AtLeast m k ⊎ Above m k
 unfolding lower low
-lower-square m k = either (eqb m (2 ^ 52))
+low-is m k = either (eqb m (2 ^ 52)) refl
   where
-    either : (b : Bool) → cond b ((4 * m - 1) * (4 * m - 1) * 4 ^ k) ((2 * m - 1) * (2 * m - 1) * 4 ^ (k + 1))
-        ≡ cond b (4 * m - 1) (2 * (2 * m - 1)) * 2 ^ k * (cond b (4 * m - 1) (2 * (2 * m - 1)) * 2 ^ k)
-    either true = square-scaled (4 * m - 1) k
-    either false = square-further (2 * m - 1) k
+    either : (b : Bool) → eqb m (2 ^ 52) ≡ b → AtLeast m k ⊎ Above m k
+    either true e = inl (eqb-true m (2 ^ 52) e, rw e, rw e)
+    either false e = inr (eqb-false m (2 ^ 52) e, rw e, rw e)
+
+lower-square : (m k : ℕ) → lower m k ≡ low m * 2 ^ k * (low m * 2 ^ k)
+lower-square m k = ⊎-elim
+    (λ (l : AtLeast m k). rw (l .1) (l .2 ∙ square-scaled (4 * m - 1) k))
+    (λ (l : Above m k). rw (l .1) (l .2 ∙ square-further (2 * m - 1) k))
+    (low-is m k)
 
 upper-square : (m k : ℕ) → upper m k ≡ high m * 2 ^ k * (high m * 2 ^ k)
 unfolding upper high
 upper-square m k = square-further (2 * m + 1) k
 
 low-near : (m : ℕ) → 4 * m ≤ low m + 2
-unfolding low
-low-near m = either (eqb m (2 ^ 52))
-  where
-    either : (b : Bool) → 4 * m ≤ cond b (4 * m - 1) (2 * (2 * m - 1)) + 2
-    either true = omega arith
-    either false = omega arith
+low-near m = ⊎-elim (λ (l : AtLeast m 0). omega (arith, l .1)) (λ (l : Above m 0). omega (arith, l .1)) (low-is m 0)
 
 low-least : (m : ℕ) → 2 ^ 52 ≤ m → 2 ^ 54 - 1 ≤ low m
-unfolding low
-low-least m h = either (eqb m (2 ^ 52)) (λ (e : m ≡ 2 ^ 52). subst (λ (x : ℕ). T (eqb m x)) e (eqb-refl m))
-  where
-    either : (b : Bool) → (m ≡ 2 ^ 52 → T b) → 2 ^ 54 - 1 ≤ cond b (4 * m - 1) (2 * (2 * m - 1))
-    either true e = omega arith
-    either false e = omega arith
+low-least m h = ⊎-elim (λ (l : AtLeast m 0). omega (arith, l .1)) (λ (l : Above m 0). omega (arith, l .0, l .1)) (low-is m 0)
 
 -- ---- the lower bound of one root is below the upper bound of any other
 module _ {x r r′ : Float} (p : IsRoot x r) (q : IsRoot x r′) where

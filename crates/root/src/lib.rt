@@ -90,8 +90,7 @@ fn root_bits(b: u64) -> u64
 
 /// The square root of `x`, rounded to the nearest f64.
 ///
-/// The root of +0.0 is +0.0, and that of -0.0 is -0.0. Every other answer is above zero, and none
-/// of them is subnormal.
+/// The root of +0.0 is +0.0, and that of -0.0 is -0.0. Every other root is above zero.
 ///
 /// # Refusal
 ///

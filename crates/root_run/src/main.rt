@@ -4,7 +4,7 @@
 use libc::STDOUT_FILENO;
 use root::Rooted;
 ghost use mathlib.Core.Path.{_≡_};
-ghost use Prim.Native.Nat.{_<_};
+ghost use Prim.Native.Nat.{_+_, _*_, _^_, _<_};
 ghost use lib.Ieee.{binary64, ofBits};
 ghost use Rattle.root.specs.Root.{rootOf};
 ghost use Rattle.root_run.specs.Pairs.{stored, little};
@@ -32,19 +32,18 @@ fn answer(b: u64) -> u64
     }
 }
 
-fn wide(b: u8) -> u64
-    ensures { λ r. ⌜ (r ≡ b) × (r < 256) ⌝ }
+// Four bytes as a number, low byte first.
+fn four(a: u8, b: u8, c: u8, d: u8) -> u64
+    ensures { λ r. ⌜ (r ≡ a + b * 2 ^ 8 + c * 2 ^ 16 + d * 2 ^ 24) × (r < 2 ^ 32) ⌝ }
 {
-    b as u64
+    a as u64 + b as u64 * 0x100 + c as u64 * 0x1_0000 + d as u64 * 0x100_0000
 }
 
 // Eight bytes as a number, low byte first.
 fn word(a: &[u8; 8]) -> u64
     ensures { λ r. ⌜ r ≡ little (now (a .entry)) ⌝ }
 {
-    let low = wide(a[0]) + wide(a[1]) * 0x100 + wide(a[2]) * 0x1_0000 + wide(a[3]) * 0x100_0000;
-    let high = wide(a[4]) + wide(a[5]) * 0x100 + wide(a[6]) * 0x1_0000 + wide(a[7]) * 0x100_0000;
-    low + high * 0x1_0000_0000
+    four(a[0], a[1], a[2], a[3]) + four(a[4], a[5], a[6], a[7]) * 0x1_0000_0000
 }
 
 // The next pair of the file; its end; or, where the file ends inside a pair, how many bytes of that

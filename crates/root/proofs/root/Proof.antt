@@ -32,7 +32,8 @@ by-bits : (x : Float) (a : Rooted) → T (fits binary64 x) → Allowed (ofBits b
 by-bits x a t p = both x a t (subst (λ (y : Float). Allowed y (numbered a)) (ofBits-toBits binary64 x t) p)
 
 -- for a zero, whose bits are b
-by-zero : (x : Float) (b : ℕ) → T (fits binary64 x) → toBits binary64 x ≡ b → Allowed (ofBits binary64 b) (done (ofBits binary64 b)) → Answers x (Root x)
+by-zero : (x : Float) (b : ℕ) → T (fits binary64 x) → toBits binary64 x ≡ b
+    → Allowed (ofBits binary64 b) (done (ofBits binary64 b)) → Answers x (Root x)
 by-zero x b t e p =
     let is : ofBits binary64 b ≡ x = subst (λ (n : ℕ). ofBits binary64 n ≡ x) e (ofBits-toBits binary64 x t) in
     both x (Root x) t (subst (λ (y : Float). Allowed y (done y)) is p)
