@@ -1,5 +1,6 @@
 -- The root of an f64, by document 01: "The charts" says which f64 the root is, "Numbers a call may give back" what is refused.
--- What has to be believed is `Allowed`. That it leaves one answer, the one of the function `rootOf`, is proved. Definitions only.
+-- What has to be believed is `Allowed`. That it leaves one answer, which the function `rootOf` computes, is proved (`allowed-unique`,
+-- `allowed-rootOf`, `rootOf-only`). Definitions only.
 use mathlib.Core.Path.{_≡_}
 use mathlib.Core.Bool.{true, false, cond}
 use Prim.Native.Nat.{ℕ, zero, suc, _+_, _-_, _*_, _/_, _^_, _≤_, _<_}
@@ -19,8 +20,9 @@ scaled nan = 0
 scaled (inf s) = 0
 scaled (fin s m e) = m * up e * 4 ^ 591 / down e
 
--- "the answer is m * 2^e": the least root is that of the smallest subnormal, 2^-537 = 2^52 * 2^-589, so the least e is -589, and e is written
--- k - 589 with k from 0. Times 4^591, 4^(e-1) is 4^(k+1), and 4^(e-2) is 4^k.
+-- "the answer is m * 2^e": the least root is that of the smallest subnormal, 2^-1074, and it is 2^-537 = 2^52 * 2^-589. So the least e of a root
+-- is -589, and here e is k - 589 with k from 0. Then e - 1 + 591 is k + 1, so 4^(e-1), times 4^591, is 4^(k+1); and e - 2 + 591 is k, so
+-- 4^(e-2), times 4^591, is 4^k. No smaller power than 4^591 makes that whole at every k.
 
 -- "(2m-1)^2 * 4^(e-1) < x", and "if m = 2^52 the lower test is (4m-1)^2 * 4^(e-2) < x": the left side, times 4^591
 unfoldable pub lower : ℕ → ℕ → ℕ
@@ -30,7 +32,8 @@ lower m k = cond (eqb m (2 ^ 52)) ((4 * m - 1) * (4 * m - 1) * 4 ^ k) ((2 * m - 
 unfoldable pub upper : ℕ → ℕ → ℕ
 upper m k = (2 * m + 1) * (2 * m + 1) * 4 ^ (k + 1)
 
--- "For finite x > 0 the answer is m * 2^e with 2^52 <= m < 2^53", and the two tests. r is the f64 whose value is m * 2^k / 2^589.
+-- "For finite x > 0 the answer is m * 2^e with 2^52 <= m < 2^53", and the two tests. r is an f64 (the format holds it), it is not negative, and
+-- its value is the fraction m * 2^k / 2^589.
 pub record IsRoot (x r : Float) : Type 0 where
   pub m : ℕ
   pub k : ℕ

@@ -74,8 +74,8 @@ fn place(b: u64) -> Placed
 // is a * 2^54 * 4^(k + 1), where a is s or, to make the power left over one of 4, 2 * s. The root
 // of a * 2^54 has 54 binary digits, one more than an f64 holds, so the nearest f64 has half of it,
 // rounded up, for its digits m. There is no tie: a * 2^54 is even, and an odd number's square is
-// odd. The root is m * 2^(k - 589), and k + 485 is what an f64's bits hold for 2^(k - 589), less
-// the one that m's own top bit adds to it.
+// odd. The root is m * 2^(k - 589). An f64's field f stands for 2^(f - 1075), so that of the root is
+// k + 486: k + 485, and one more by m's own top bit.
 fn root_bits(b: u64) -> u64
     requires { ⌜ (0 < b) × (b < infinity) ⌝ }
     ensures { λ r. ⌜ RootBits b r ⌝ }

@@ -4,7 +4,7 @@
 use libc::STDOUT_FILENO;
 use root::Rooted;
 ghost use mathlib.Core.Path.{_≡_};
-ghost use Prim.Native.Nat.{_+_, _*_, _^_, _<_};
+ghost use Prim.Native.Nat.{_+_, _*_, _^_, _≤_, _<_};
 ghost use lib.Ieee.{binary64, ofBits};
 ghost use Rattle.root.specs.Root.{rootOf};
 ghost use Rattle.root_run.specs.Pairs.{stored, little};
@@ -68,8 +68,8 @@ fn read_pair(fd: i32) -> Pair {
     Pair::Bits(word(&x), word(&root))
 }
 
-// How many pairs were compared and how many of them differ, which pair is the first of those, and
-// how many bytes of a pair are left over at the end of the file.
+// How many pairs were compared and how many of them differ, which pair is the first of those,
+// counted from 0, and how many bytes of a pair are left over at the end of the file.
 struct Tally {
     pairs: u64,
     differ: u64,
@@ -78,7 +78,9 @@ struct Tally {
 }
 
 // A proved loop has to end, and nothing says that a file does: the count of pairs ends it.
-fn compare(fd: i32) -> Tally {
+fn compare(fd: i32) -> Tally
+    ensures { λ r. ⌜ r .differ ≤ r .pairs ⌝ }
+{
     let mut pairs: u64 = 0;
     let mut differ: u64 = 0;
     let mut first: u64 = 0;
@@ -131,7 +133,7 @@ fn main() {
         say(b"the first at pair ", t.first, b"\n");
     }
     if t.cut > 0 {
-        say(b"the file is cut in pair ", t.pairs, b", ");
-        say(b"after byte ", t.cut, b"\n");
+        say(b"the file is cut in pair ", t.pairs, b"");
+        say(b", after ", t.cut, b" of its 16 bytes\n");
     }
 }

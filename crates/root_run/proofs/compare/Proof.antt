@@ -1,4 +1,4 @@
--- `root_run::compare` is safe and ends. The invariant of its loop: no more pairs differ than were read. The measure is how many more can be counted.
+-- `root_run::compare` meets its contract. The invariant of its loop: no more pairs differ than were read. The measure is how many more can be counted.
 -- Assumes nothing.
 use Prim.Native.Nat.{_-_, _^_, _≤_}
 use mathlib.Core.Logic.{⊎-elim}
