@@ -1,2 +1,3 @@
--- What a rule set is.
+-- What a rule set is, and what its calls answer.
 pub mod Sets
+pub mod Calls

@@ -1,0 +1,65 @@
+-- A rule set's number and its tests: a set is made of its tests and known by them. Assumes nothing.
+use mathlib.Core.Path.{_≡_, refl, sym, ap, _∙_, fun-ext}
+use mathlib.Core.Bool.{Bool, true, false}
+use mathlib.Core.List.{List, map}
+use Prim.Native.Nat.{ℕ, _≤_, _<_}
+use native.Mathlib.Omega.{arith}
+use lib.ListN.{getD}
+use lib.Dec.{ltb}
+use borrow.Author.Tests.{eqb-true, ltb-true}
+use Rattle.laws.proofs.Bits.{fromBits-lt, has-fromBits}
+use Rattle.laws.proofs.FirstBits.{bits-again}
+use Rattle.sets.specs.declared.Test.{Test}
+use Rattle.sets.specs.declared.Test.the-variants.{BeyondLimits, NineOneSide, SixTrend, FourteenAlternating, TwoOfThreeBeyond2Sigma, FourOfFiveBeyond1Sigma, FifteenWithin1Sigma, EightBeyond1Sigma, EightOneSide}
+use Rattle.sets.specs.Sets.{bitOf, tests, has, setOf}
+use Rattle.sets.specs.Calls.{is}
+
+-- ---- the list of the tests, row by row; all else goes for every test at once
+
+-- what stands for a test in a list made from the tests
+pub at-bit : {A : Type 0} (f : Test → A) (d : A) (t : Test) → getD (map f tests) (bitOf t) d ≡ f t
+unfolding tests bitOf
+at-bit f d BeyondLimits = refl
+at-bit f d NineOneSide = refl
+at-bit f d SixTrend = refl
+at-bit f d FourteenAlternating = refl
+at-bit f d TwoOfThreeBeyond2Sigma = refl
+at-bit f d FourOfFiveBeyond1Sigma = refl
+at-bit f d FifteenWithin1Sigma = refl
+at-bit f d EightBeyond1Sigma = refl
+at-bit f d EightOneSide = refl
+
+-- what agrees in the list agrees for each test
+pub agree : {A : Type 0} (f g : Test → A) → A → map f tests ≡ map g tests → (t : Test) → f t ≡ g t
+agree f g d e t = sym (at-bit f d t) ∙ ap (λ (l : List _). getD l (bitOf t) d) e ∙ at-bit g d t
+
+pub bitOf-lt : (t : Test) → bitOf t < 9
+unfolding tests bitOf
+bitOf-lt t = ltb-true (bitOf t) 9 (agree (λ (u : Test). ltb (bitOf u) 9) (λ (u : Test). true) true refl t)
+
+-- two tests with one bit are one
+pub is-one : (t u : Test) → is t u ≡ true → t ≡ u
+is-one t u e =
+    sym (at-bit (λ (v : Test). v) BeyondLimits t)
+    ∙ ap (λ (k : ℕ). getD (map (λ (v : Test). v) tests) k BeyondLimits) (eqb-true (bitOf t) (bitOf u) e)
+    ∙ at-bit (λ (v : Test). v) BeyondLimits u
+
+-- ---- sets
+
+-- the set made of some tests has just these
+pub has-setOf : (p : Test → Bool) (t : Test) → has (setOf p) t ≡ p t
+unfolding has setOf
+has-setOf p t = has-fromBits (map p tests) (bitOf t) ∙ at-bit p false t
+
+pub setOf-lt : (p : Test → Bool) → setOf p < 512
+unfolding setOf tests
+setOf-lt p = fromBits-lt (map p tests)
+
+-- a set is made of the tests that it has
+pub setOf-has : (set : ℕ) → set ≤ 511 → setOf (has set) ≡ set
+unfolding setOf has tests bitOf
+setOf-has set h = bits-again 9 set (omega arith)
+
+-- a set is known by its tests
+pub known-by-tests : (set : ℕ) (p : Test → Bool) → set ≤ 511 → ((t : Test) → has set t ≡ p t) → set ≡ setOf p
+known-by-tests set p h f = sym (setOf-has set h) ∙ ap setOf (fun-ext f)

@@ -1,0 +1,16 @@
+-- `sets::spelt` meets its contract: the kit's comparison says yes just for equal bytes. Assumes nothing.
+use mathlib.Core.Path.{sym}
+use borrow.Author.Needs.{needs}
+use Rattle.sets.proofs.Names.{compared}
+use Rattle.sets.proofs.spelt.Statement.{statement}
+use Rattle.sets.proofs.spelt.Tie as tie
+
+same-requires : tie.Need-same-requires
+same-requires c κs = search needs
+
+returns : tie.Need-returns
+returns c =
+    sym (compared (c .before .before .before .args .name .now) (c .before .before .before .args .word .now) (c .same .result) (c .same .ensures))
+
+pub spelt-spec : {M : Type 1} → statement M
+spelt-spec = tie.close (tie.spec same-requires returns)
