@@ -2,10 +2,11 @@
 
 use crate::case::{Answer, Case, Evaluation, Limits, MarksCase};
 use crate::format::Judged;
+use crate::scope::WINDOWS;
 use crate::{judge, show};
 
-/// Each test's window, for cutting a disagreement down to what it rests on.
-const WINDOWS: [usize; 9] = [1, 9, 6, 14, 3, 5, 15, 8, 8];
+/// Values of an input that a line shows: enough for any window.
+const SHOWN: usize = 40;
 
 /// One line for each case whose stored answer is not the Rust's: 'case K: ..', K counted from 0.
 pub fn disagreements(list: &[Judged]) -> Vec<String> {
@@ -21,11 +22,11 @@ fn difference(case: &Case, stored: &Answer) -> Option<String> {
         (Case::Marks(c), Answer::Marks(s), Answer::Marks(r)) => marks_difference(c, s, r),
         (_, Answer::Evaluated(s), Answer::Evaluated(r)) => {
             let told = evaluation_difference(s, r)?;
-            Some(format!("{told}; input: {}", show::case(case)))
+            Some(format!("{told}; input: {}", show::case(case, SHOWN)))
         }
         _ => {
             let (s, r) = (number(stored), number(&right));
-            (s != r).then(|| format!("answer: stored {s}, Rust {r}; input: {}", show::case(case)))
+            (s != r).then(|| format!("answer: stored {s}, Rust {r}; input: {}", show::case(case, SHOWN)))
         }
     }
 }
@@ -50,7 +51,7 @@ fn marks_difference(case: &MarksCase, stored: &[u16], right: &[u16]) -> Option<S
         values: case.values[end.saturating_sub(WINDOWS[test])..end].to_vec(),
     };
     let told = format!("marks at {at}: stored {s}, Rust {r} (test {test})");
-    Some(format!("{told}; smallest input: {}", show::marks_case(&smallest)))
+    Some(format!("{told}; smallest input: {}", show::marks_case(&smallest, SHOWN)))
 }
 
 /// The first position where two lists part; a shorter one parts where it ends.

@@ -11,6 +11,12 @@ const CHART: u64 = 2;
 /// More groups than this hold more than 64 bits.
 const MOST_GROUPS: usize = 10;
 
+/// No list that a program of ours is given is longer: it may have to hold one in an array.
+const MOST_BYTES: usize = 400_000;
+
+/// Bytes at most before the first case and after the last: format number, number of cases, end.
+const AROUND: usize = 1 + MOST_GROUPS + 1;
+
 pub type Judged = (Case, Answer);
 
 // ---- writing ---------------------------------------------------------------
@@ -24,14 +30,31 @@ pub fn put(out: &mut Vec<u8>, mut number: u64) {
     out.push(number as u8);
 }
 
-pub fn write(list: &[Judged]) -> Vec<u8> {
+/// The cases in their order, in as few lists of at most `MOST_BYTES` bytes as hold them; one empty
+/// list where there are none.
+pub fn write(cases: &[Judged]) -> Vec<Vec<u8>> {
+    let mut lists = Vec::new();
+    let (mut body, mut held) = (Vec::new(), 0);
+    for (case, answer) in cases {
+        let mut bytes = Vec::new();
+        put_case(&mut bytes, case);
+        put_answer(&mut bytes, answer);
+        if held > 0 && body.len() + bytes.len() + AROUND > MOST_BYTES {
+            lists.push(closed(&body, held));
+            (body, held) = (Vec::new(), 0);
+        }
+        body.extend(bytes);
+        held += 1;
+    }
+    lists.push(closed(&body, held));
+    lists
+}
+
+fn closed(body: &[u8], cases: u64) -> Vec<u8> {
     let mut out = Vec::new();
     put(&mut out, FORMAT);
-    put(&mut out, list.len() as u64);
-    for (case, answer) in list {
-        put_case(&mut out, case);
-        put_answer(&mut out, answer);
-    }
+    put(&mut out, cases);
+    out.extend(body);
     put(&mut out, END);
     out
 }
@@ -225,8 +248,8 @@ impl Reader<'_> {
 
     fn chart_case(&mut self) -> Result<Judged, Fault> {
         let kind = self.number_within(1, 3, "kind")?;
-        let sizes = scope::sizes(kind);
-        let size = self.number_within(*sizes.start(), *sizes.end(), "size")? as usize;
+        let (smallest, largest) = scope::sizes(kind);
+        let size = self.number_within(smallest, largest, "size")? as usize;
         let set = self.set()?;
         let count = self.count("number of samples")?;
         let values = self.floats(count * size, "value")?;

@@ -16,10 +16,7 @@ pub fn answer(case: &Case) -> Answer {
 /// The Rust's set of the tests whose bits are in `set`; bit b is entry b of `ViolationType::ALL`.
 pub fn rule_set(set: u16) -> RuleSet {
     let in_set = |b: &usize| set & (1 << b) != 0;
-    (0..ViolationType::ALL.len())
-        .filter(in_set)
-        .map(|b| ViolationType::ALL[b])
-        .collect()
+    (0..ViolationType::ALL.len()).filter(in_set).map(|b| ViolationType::ALL[b]).collect()
 }
 
 fn bit_of(test: ViolationType) -> u16 {
@@ -79,8 +76,7 @@ pub fn told(
     sigma_hat: Option<f64>,
     sigma_hat_df: Option<f64>,
 ) -> Answer {
-    let (Some(main_limits), Some(dispersion_limits)) = (chart.control_limits(), dispersion_limits)
-    else {
+    let (Some(main_limits), Some(dispersion_limits)) = (chart.control_limits(), dispersion_limits) else {
         assert!(chart.is_in_control(), "a chart with no limits has no marks");
         return Answer::Refused(scope::TOO_FEW);
     };

@@ -1,5 +1,7 @@
 //! The judge: the published Rust, asked by cases that are read and written as bytes.
 
+#[cfg(test)]
+mod by_01;
 mod case;
 mod cases;
 mod check;
@@ -18,8 +20,9 @@ use format::Judged;
 use std::io::{Read, Write};
 use std::process::ExitCode;
 
-const USAGE: &str = "usage: oracle list PART | fresh PART COUNT SEED | check | pick K | smaller | show
-PART is marks or charts; check, pick, smaller and show read a list from standard input.";
+const USAGE: &str = "usage: oracle list PART | fresh PART COUNT SEED PREFIX | check | pick K | smaller | show
+PART is marks or charts; check, pick, smaller and show read a list from standard input.
+fresh writes PREFIX0, PREFIX1, ..";
 
 fn main() -> ExitCode {
     let arguments: Vec<String> = std::env::args().skip(1).collect();
@@ -35,23 +38,21 @@ fn main() -> ExitCode {
 
 fn run(words: &[&str]) -> Result<ExitCode, String> {
     match words {
-        ["list", part] => put_list(cases::list(part_named(part)?)),
-        ["fresh", part, count, seed] => {
-            put_list(cases::fresh(part_named(part)?, number(count)? as usize, number(seed)?))
+        ["list", part] => put_whole(cases::list(part_named(part)?)),
+        ["fresh", part, count, seed, prefix] => {
+            let cases = cases::fresh(part_named(part)?, number(count)? as usize, number(seed)?);
+            put_files(cases, prefix)
         }
         ["check"] => check_list(&get_list()?),
-        ["pick", k] => {
-            let k = number(k)? as usize;
-            let mut list = get_list()?;
-            if k >= list.len() {
-                return Err(format!("there is no case {k}"));
-            }
-            put(&format::write(&[list.swap_remove(k)]))
+        ["pick", k] => pick(get_list()?, number(k)? as usize),
+        ["smaller"] => {
+            let cases = get_list()?.iter().flat_map(|(case, _)| smaller::of(case)).collect();
+            // The boldest that fit into one list; the others are seldom wanted.
+            put(&format::write(&judged(cases))[0])
         }
-        ["smaller"] => put_list(get_list()?.iter().flat_map(|(case, _)| smaller::of(case)).collect()),
         ["show"] => {
             for (case, _) in get_list()? {
-                println!("{}", show::case(&case));
+                println!("{}", show::case(&case, usize::MAX));
             }
             Ok(ExitCode::SUCCESS)
         }
@@ -73,13 +74,34 @@ fn get_list() -> Result<Vec<Judged>, String> {
     format::read(&bytes).map_err(|fault| format!("no list: at byte {}, {}", fault.at, fault.why))
 }
 
-/// The cases with the Rust's answers, as a list.
-fn put_list(cases: Vec<Case>) -> Result<ExitCode, String> {
-    let judged = |case: Case| {
+/// The cases with the Rust's answers.
+fn judged(cases: Vec<Case>) -> Vec<Judged> {
+    let one = |case: Case| {
         let answer = judge::answer(&case);
         (case, answer)
     };
-    put(&format::write(&cases.into_iter().map(judged).collect::<Vec<_>>()))
+    cases.into_iter().map(one).collect()
+}
+
+fn put_whole(cases: Vec<Case>) -> Result<ExitCode, String> {
+    match &format::write(&judged(cases))[..] {
+        [list] => put(list),
+        lists => Err(format!("the cases fill {} lists, not one", lists.len())),
+    }
+}
+
+fn put_files(cases: Vec<Case>, prefix: &str) -> Result<ExitCode, String> {
+    for (k, list) in format::write(&judged(cases)).iter().enumerate() {
+        std::fs::write(format!("{prefix}{k}"), list).map_err(|e| e.to_string())?;
+    }
+    Ok(ExitCode::SUCCESS)
+}
+
+fn pick(mut list: Vec<Judged>, k: usize) -> Result<ExitCode, String> {
+    if k >= list.len() {
+        return Err(format!("there is no case {k}"));
+    }
+    put(&format::write(&[list.swap_remove(k)])[0])
 }
 
 fn put(bytes: &[u8]) -> Result<ExitCode, String> {

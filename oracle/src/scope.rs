@@ -17,12 +17,13 @@ pub const MOST: usize = 4096;
 /// The largest rule set: all nine tests.
 pub const ALL_TESTS: u16 = 511;
 
+/// Each test's window, in the order of the bits.
+pub const WINDOWS: [usize; 9] = [1, 9, 6, 14, 3, 5, 15, 8, 8];
+
 /// Whether every computed point and limit is finite; 01 answers 7 where not.
 pub fn is_finite(seen: &Evaluation) -> bool {
     let points = || seen.main.iter().chain(&seen.dispersion);
-    points().all(|v| v.is_finite())
-        && seen.main_limits.are_finite()
-        && seen.dispersion_limits.are_finite()
+    points().all(|v| v.is_finite()) && seen.main_limits.are_finite() && seen.dispersion_limits.are_finite()
 }
 
 /// A sigma figure, or nothing where it is not finite, which 01 answers with 7. With finite limits
@@ -31,11 +32,10 @@ pub fn figure(x: f64) -> Option<f64> {
     x.is_finite().then_some(x)
 }
 
-/// The sizes that 01 allows for a kind; none for a kind that it does not know.
-pub fn sizes(kind: u64) -> std::ops::RangeInclusive<u64> {
+/// The smallest and the largest size that 01 allows for a kind.
+pub fn sizes(kind: u64) -> (u64, u64) {
     match kind {
-        1 => 1..=1,
-        2 | 3 => 2..=25,
-        _ => 1..=0,
+        1 => (1, 1),
+        _ => (2, 25),
     }
 }

@@ -15,6 +15,7 @@ enum Data {
     Shaped,
     OneValue,
     LevelSamples,
+    WideSamples,
     Zeros,
     Subnormal,
     RootSized,
@@ -22,19 +23,23 @@ enum Data {
     AnyBits,
 }
 
-const DATA: [Data; 11] = [
+const DATA: [Data; 12] = [
     Data::Millimetres,
     Data::Tenths,
     Data::Bell,
     Data::Shaped,
     Data::OneValue,
     Data::LevelSamples,
+    Data::WideSamples,
     Data::Zeros,
     Data::Subnormal,
     Data::RootSized,
     Data::NearLargest,
     Data::AnyBits,
 ];
+
+/// The values of the largest fresh chart; 01 has no more in a flow file.
+const MOST_VALUES: usize = 2048;
 
 /// Values whose equal copies do not have themselves as their mean, and some that do.
 const SINGLES: [f64; 8] = [0.1, 0.3, 25.0, 0.7, -0.1, -0.0, 1.0e-310, 1.1e307];
@@ -54,6 +59,7 @@ fn samples(random: &mut Random, data: Data, size: usize, count: usize) -> Vec<f6
         }
         Data::OneValue => vec![random.pick(&SINGLES); n],
         Data::LevelSamples => level_samples(random, size, count),
+        Data::WideSamples => wide_samples(random, size, count),
         Data::Zeros => each(random, &|r| r.zero()),
         Data::Subnormal => each(random, &|r| f64::from_bits(r.bits() % 64) * r.pick(&[-1.0, 1.0])),
         // Squares of these lie about the smallest or the largest f64.
@@ -79,6 +85,16 @@ fn level_samples(random: &mut Random, size: usize, count: usize) -> Vec<f64> {
     values
 }
 
+/// Level means, and now and then a sample far wider than the others: only the spread moves.
+fn wide_samples(random: &mut Random, size: usize, count: usize) -> Vec<f64> {
+    let mut values = Vec::new();
+    for _ in 0..count {
+        let reach = random.pick(&[1.0, 1.0, 1.25, 1.5, 6.0]);
+        values.extend((0..size).map(|i| 25.0 + if i % 2 == 0 { reach } else { -reach }));
+    }
+    values
+}
+
 fn chart(kind: u8, size: usize, set: u16, values: Vec<f64>) -> ChartCase {
     ChartCase { kind, size, set, values }
 }
@@ -97,7 +113,18 @@ pub fn list(random: &mut Random) -> Vec<ChartCase> {
             cases.push(chart(kind, size, any_set(random), values));
         }
     }
-    cases.extend(SHAPES.map(|shape| chart(1, 1, ALL_TESTS, flow(random, shape, &EXACT, 30))));
+    for shape in SHAPES {
+        for (kind, size, count) in [(1, 1, 30), (2, 2, 18), (3, 2, 18)] {
+            let values = flow(random, shape, &EXACT, size * count);
+            cases.push(chart(kind, size, ALL_TESTS, values));
+        }
+    }
+    for (kind, size) in [(2, 4), (2, 5), (3, 4), (3, 5)] {
+        for count in [9, 12, 16] {
+            let values = samples(random, Data::WideSamples, size, count);
+            cases.push(chart(kind, size, ALL_TESTS, values));
+        }
+    }
     let long = samples(random, Data::Bell, 1, MOST);
     cases.push(chart(1, 1, ALL_TESTS, long));
     cases
@@ -157,8 +184,8 @@ pub fn any(random: &mut Random) -> ChartCase {
     let kind = random.pick(&[1, 2, 3]);
     let size = if kind == 1 { 1 } else { random.between(2, 25) };
     let count = match random.below(64) {
-        0 => random.between(200, 600),
-        1..=8 => random.between(18, 120),
+        0 => MOST_VALUES / size,
+        1..=8 => random.between(18, 80),
         _ => random.between(0, 20),
     };
     let data = random.pick(&DATA);

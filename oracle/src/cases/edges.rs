@@ -4,8 +4,7 @@
 
 use super::limits::{about, one_sigma};
 use crate::case::Limits;
-
-const WINDOWS: [usize; 9] = [1, 9, 6, 14, 3, 5, 15, 8, 8];
+use crate::scope::WINDOWS;
 
 /// `n` values of which every full window shows `test`'s pattern with room to spare, `way` being
 /// 1.0 for its upper side and -1.0 for its lower.
@@ -42,8 +41,8 @@ fn edges(test: usize, l: &Limits, values: &[f64], at: usize) -> Vec<f64> {
 /// Each test from one value short of its window to two more.
 pub fn lengths(l: &Limits) -> Vec<Vec<f64>> {
     let mut found = Vec::new();
-    for test in 0..9 {
-        for n in WINDOWS[test] - 1..=WINDOWS[test] + 2 {
+    for (test, window) in WINDOWS.into_iter().enumerate() {
+        for n in window - 1..=window + 2 {
             found.push(shown(test, l, 1.0, n));
             found.push(shown(test, l, -1.0, n));
         }
@@ -54,9 +53,9 @@ pub fn lengths(l: &Limits) -> Vec<Vec<f64>> {
 /// Each test's window with each of its places in turn on each edge.
 pub fn flawed(l: &Limits) -> Vec<Vec<f64>> {
     let mut found = Vec::new();
-    for test in 0..9 {
+    for (test, window) in WINDOWS.into_iter().enumerate() {
         for way in [1.0, -1.0] {
-            let values = shown(test, l, way, WINDOWS[test]);
+            let values = shown(test, l, way, window);
             for at in 0..values.len() {
                 for edge in edges(test, l, &values, at) {
                     let mut flawed = values.clone();
@@ -103,8 +102,8 @@ fn stepped(l: &Limits) -> Vec<f64> {
     values
 }
 
-/// A string over `letters` letters in which every word of length `n` stands: a de Bruijn sequence,
-/// made by putting the letter furthest down that leads to a new word, and its end joined on.
+/// A string over `letters` letters in which every word of length `n` stands once: after `n` zeros
+/// always the highest letter that makes a new word (the greedy de Bruijn sequence).
 fn every_word(letters: usize, n: usize) -> Vec<usize> {
     let words = letters.pow(n as u32);
     let mut seen = vec![false; words];
@@ -117,5 +116,6 @@ fn every_word(letters: usize, n: usize) -> Vec<usize> {
         seen[word] = true;
         string.push(letter);
     }
+    assert!(seen.iter().all(|&word| word), "a word is missing");
     string
 }

@@ -1,8 +1,8 @@
 //! Values, limits and sets for marking.
 
-use super::{any_set, edges};
 use super::flows::{flow, Shape, SHAPES};
 use super::limits::{one_sigma, ALL, DECIMAL, EXACT, FLOORED, UNITS};
+use super::{any_set, edges};
 use crate::case::{Limits, MarksCase};
 use crate::random::Random;
 use crate::scope::{ALL_TESTS, MOST};
