@@ -101,6 +101,7 @@ fn chart(kind: u8, size: usize, set: u16, values: Vec<f64>) -> ChartCase {
 
 pub fn list(random: &mut Random) -> Vec<ChartCase> {
     let mut cases = by_hand();
+    cases.extend(past_the_largest());
     cases.extend(every_size(random));
     for data in DATA {
         for count in [2, 3, 9, 10, 16, 17] {
@@ -130,9 +131,8 @@ pub fn list(random: &mut Random) -> Vec<ChartCase> {
     cases
 }
 
-/// Charts that 01 names, the refusals 7 and 8, and the zeros.
+/// Charts that 01 names, both zeros, and too few samples (8).
 fn by_hand() -> Vec<ChartCase> {
-    let most = f64::MAX;
     let mut cases = vec![
         chart(1, 1, 1, vec![0.1, 0.1, 0.1]),
         chart(1, 1, 64, vec![8.0; 16]),
@@ -141,13 +141,6 @@ fn by_hand() -> Vec<ChartCase> {
         chart(1, 1, 1, vec![-0.0; 3]),
         chart(1, 1, 1, vec![]),
         chart(1, 1, 1, vec![25.0]),
-        chart(1, 1, 1, vec![most, -most]),
-        chart(1, 1, 1, vec![most, most]),
-        // The largest difference whose limit on the moving ranges is finite, and one too large.
-        chart(1, 1, 1, vec![0.0, most / 3.268]),
-        chart(1, 1, 1, vec![0.0, most / 3.266]),
-        // One large difference in the middle, so that the main chart's own limit is the one too large.
-        chart(1, 1, 1, vec![most / 2.0, most / 2.0 - most / 5.0]),
     ];
     for kind in [2, 3] {
         cases.extend([
@@ -156,12 +149,43 @@ fn by_hand() -> Vec<ChartCase> {
             chart(kind, 2, 1, vec![-0.0, 0.0]),
             chart(kind, 2, 1, vec![-0.0, -0.0]),
             chart(kind, 3, 1, vec![0.1; 9]),
-            chart(kind, 2, 1, vec![most, -most]),
-            chart(kind, 2, 1, vec![most, most]),
-            chart(kind, 2, 1, vec![most / 2.0, most / 4.0]),
-            chart(kind, 2, 1, vec![0.0, most / 8.0]),
         ]);
     }
+    cases
+}
+
+/// Each way to a point or limit that is not finite (7), given in parts of the largest f64, with
+/// inputs beside them that are still evaluated.
+fn past_the_largest() -> Vec<ChartCase> {
+    let individuals: [&[f64]; 8] = [
+        &[1.0, -1.0],        // a moving range
+        &[0.4, 0.4, 0.4],    // the sum of the values
+        &[0.0, 1.0 / 3.266], // ucl of the moving ranges
+        &[0.0, 1.0 / 3.268], // evaluated
+        &[0.6, 0.35],        // ucl of the individuals
+        &[-0.6, -0.35],      // lcl of the individuals
+        &[0.5, 0.3],         // evaluated
+        &[-0.5, -0.3],       // evaluated
+    ];
+    // For kind 2; a deviation is past the largest in most of them.
+    let pairs: [&[f64]; 10] = [
+        &[1.0, -1.0],                              // a range
+        &[1.0, 1.0],                               // a mean
+        &[1.0, 1.0, -1.0, -1.0],                   // both ways: the mean of means is no number
+        &[0.4, 0.4, 0.4, 0.4, 0.4, 0.4],           // the sum of means
+        &[0.0, 0.3, 0.0, 0.3, 0.0, 0.3, 0.0, 0.3], // the sum of ranges
+        &[0.0, 1.0 / 3.266],                       // ucl of the ranges
+        &[0.0, 1.0 / 3.268],                       // evaluated
+        &[0.64, 0.34],                             // ucl of the means
+        &[-0.64, -0.34],                           // lcl of the means
+        &[0.5, 0.3],                               // evaluated
+    ];
+    let whole = |parts: &[f64]| -> Vec<f64> { parts.iter().map(|x| x * f64::MAX).collect() };
+    let mut cases: Vec<ChartCase> = individuals.iter().map(|x| chart(1, 1, 1, whole(x))).collect();
+    cases.extend(pairs.iter().map(|x| chart(2, 2, 1, whole(x))));
+    cases.extend(pairs.iter().map(|x| chart(3, 2, 1, whole(x))));
+    // The square of a difference, and one that is still evaluated.
+    cases.extend([1.0e155, 1.0e153].map(|x| chart(3, 2, 1, vec![x, -x])));
     cases
 }
 
