@@ -102,6 +102,7 @@ fn chart(kind: u8, size: usize, set: u16, values: Vec<f64>) -> ChartCase {
 pub fn list(random: &mut Random) -> Vec<ChartCase> {
     let mut cases = by_hand();
     cases.extend(past_the_largest());
+    cases.extend(every_factor(random));
     cases.extend(every_size(random));
     for data in DATA {
         for count in [2, 3, 9, 10, 16, 17] {
@@ -141,6 +142,8 @@ fn by_hand() -> Vec<ChartCase> {
         chart(1, 1, 1, vec![-0.0; 3]),
         chart(1, 1, 1, vec![]),
         chart(1, 1, 1, vec![25.0]),
+        // About zero: the limits are the factors of the individuals chart themselves.
+        chart(1, 1, 1, vec![0.5, -0.5]),
     ];
     for kind in [2, 3] {
         cases.extend([
@@ -189,7 +192,23 @@ fn past_the_largest() -> Vec<ChartCase> {
     cases
 }
 
-/// Each kind with each size from 2 to 25, with few samples and with some more: each factor counts.
+/// One sample about zero for each kind and size, three times over: the limits are then a factor
+/// times the spread and nothing else, so that each bit of a factor shows.
+fn every_factor(random: &mut Random) -> Vec<ChartCase> {
+    let mut cases = Vec::new();
+    for kind in [2, 3] {
+        for size in 2..=25 {
+            for reach in [0.5, 0.5 + random.unit(), 0.5 + random.unit()] {
+                let mut values = vec![0.0; size];
+                (values[0], values[1]) = (reach, -reach);
+                cases.push(chart(kind, size, 1, values));
+            }
+        }
+    }
+    cases
+}
+
+/// Each kind with each size from 2 to 25, with few samples and with some more.
 fn every_size(random: &mut Random) -> Vec<ChartCase> {
     let mut cases = Vec::new();
     for kind in [2, 3] {
