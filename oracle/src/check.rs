@@ -38,20 +38,24 @@ fn number(answer: &Answer) -> u8 {
     }
 }
 
-/// The first wrong position, and the smallest input that shows it: the values of the lowest wrong
-/// test's window alone, or all values so far where that window does not fit.
+/// The first wrong position, and the smallest input that shows it for the lowest wrong test.
 fn marks_difference(case: &MarksCase, stored: &[u16], right: &[u16]) -> Option<String> {
     let at = first_difference(stored, right)?;
     let (s, r) = (stored[at], right[at]);
     let test = (s ^ r).trailing_zeros() as usize;
-    let end = at + 1;
-    let smallest = MarksCase {
-        set: 1 << test,
-        limits: case.limits,
-        values: case.values[end.saturating_sub(WINDOWS[test])..end].to_vec(),
-    };
-    let told = format!("marks at {at}: stored {s}, Rust {r} (test {test})");
-    Some(format!("{told}; smallest input: {}", show::marks_case(&smallest, SHOWN)))
+    let smallest = show::marks_case(&smallest(case, at, test, r), SHOWN);
+    Some(format!("marks at {at}: stored {s}, Rust {r} (test {test}); smallest input: {smallest}"))
+}
+
+/// As few of the values that end at `at` as give the Rust's mark there for that test alone: its
+/// window, or what there is of it. A Rust that is broken on purpose may need more.
+fn smallest(case: &MarksCase, at: usize, test: usize, mark: u16) -> MarksCase {
+    let (set, end) = (1 << test, at + 1);
+    let from =
+        |start: usize| MarksCase { set, limits: case.limits, values: case.values[start..end].to_vec() };
+    let gives = |c: &MarksCase| judge::marks(c).last() == Some(&(mark & set));
+    let latest = end.saturating_sub(WINDOWS[test]);
+    (0..=latest).rev().map(from).find(gives).unwrap_or_else(|| from(0))
 }
 
 /// The first position where two lists part; a shorter one parts where it ends.
