@@ -1,0 +1,55 @@
+//! The cases: a fixed list for each part, and fresh ones from a seed.
+
+mod charts;
+mod edges;
+mod flows;
+mod limits;
+mod marks;
+
+use crate::case::Case;
+use crate::random::Random;
+use crate::scope::ALL_TESTS;
+
+/// The seed of the stored list.
+const LIST_SEED: u64 = 20_261_102;
+
+#[derive(Clone, Copy)]
+pub enum Part {
+    Marks,
+    Charts,
+}
+
+impl Part {
+    pub fn named(name: &str) -> Option<Self> {
+        match name {
+            "marks" => Some(Part::Marks),
+            "charts" => Some(Part::Charts),
+            _ => None,
+        }
+    }
+}
+
+/// The cases of the stored list.
+pub fn list(part: Part) -> Vec<Case> {
+    let mut random = Random::new(LIST_SEED);
+    match part {
+        Part::Marks => marks::list(&mut random).into_iter().map(Case::Marks).collect(),
+        Part::Charts => charts::list(&mut random).into_iter().map(Case::Chart).collect(),
+    }
+}
+
+/// `count` cases that follow from `seed` alone.
+pub fn fresh(part: Part, count: usize, seed: u64) -> Vec<Case> {
+    let mut random = Random::new(seed);
+    let mut one = || match part {
+        Part::Marks => Case::Marks(marks::any(&mut random)),
+        Part::Charts => Case::Chart(charts::any(&mut random)),
+    };
+    (0..count).map(|_| one()).collect()
+}
+
+/// All nine tests, a named set (shewhart, nelson, western_electric), or any of the 512.
+fn any_set(random: &mut Random) -> u16 {
+    let any = random.below(usize::from(ALL_TESTS) + 1) as u16;
+    random.pick(&[ALL_TESTS, ALL_TESTS, 1, 255, 305, any])
+}

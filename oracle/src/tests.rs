@@ -1,0 +1,316 @@
+//! 01's worked examples through the published Rust, and the reader of lists.
+
+use crate::case::{Answer, Case, ChartCase, Evaluation, Limits, MarksCase};
+use crate::cases::{self, Part};
+use crate::{by_01, check, format, judge, smaller};
+use u_analytics::spc::rules::RuleSet;
+use u_analytics::spc::variables::{IndividualMRChart, XBarRChart, XBarSChart};
+
+const ALL: u16 = 511;
+const LIMITS: Limits = Limits { ucl: 28.0, cl: 25.0, lcl: 22.0 };
+
+// ---- 01's table of worked examples -----------------------------------------
+
+fn marks_under(limits: Limits, set: u16, values: &[f64]) -> Vec<u16> {
+    judge::marks(&MarksCase { set, limits, values: values.to_vec() })
+}
+
+/// Whether the test of bit `bit` stands at each position.
+fn standing(bit: u16, limits: Limits, values: &[f64]) -> Vec<bool> {
+    marks_under(limits, ALL, values).iter().map(|m| m & (1 << bit) != 0).collect()
+}
+
+/// The positions where the test of bit `bit` stands.
+fn places(bit: u16, values: &[f64]) -> Vec<usize> {
+    let stands = standing(bit, LIMITS, values);
+    (0..values.len()).filter(|&i| stands[i]).collect()
+}
+
+#[test]
+fn row_1_nine_on_one_side() {
+    assert_eq!(places(1, &[26.0; 9]), [8]);
+    assert_eq!(places(1, &[26.0; 8]), []);
+}
+
+#[test]
+fn row_2_a_point_on_cl_ends_a_run() {
+    let mut values = [26.0; 9];
+    values[4] = 25.0;
+    assert_eq!(places(1, &values), []);
+}
+
+#[test]
+fn row_3_fifteen_within_no_width() {
+    let level = Limits { ucl: 25.0, cl: 25.0, lcl: 25.0 };
+    let mut fifteen = [false; 15];
+    fifteen[14] = true;
+    assert_eq!(standing(6, level, &[25.0; 15]), fifteen);
+    assert_eq!(standing(6, level, &[25.0; 14]), [false; 14]);
+}
+
+#[test]
+fn row_4_six_rising() {
+    assert_eq!(places(2, &[1.0, 2.0, 3.0, 4.0, 5.0, 6.0]), [5]);
+    assert_eq!(places(2, &[1.0, 2.0, 3.0, 3.0, 4.0, 5.0]), []);
+}
+
+#[test]
+fn row_5_fourteen_alternating() {
+    let values: Vec<f64> = (0..14).map(|i| [24.0, 26.0][i % 2]).collect();
+    assert_eq!(places(3, &values), [13]);
+    assert_eq!(places(3, &values[..13]), []);
+}
+
+#[test]
+fn row_6_beyond_the_limit() {
+    assert_eq!(places(0, &[28.0]), []);
+    assert_eq!(places(0, &[28.5]), [0]);
+}
+
+#[test]
+fn row_7_two_of_three() {
+    assert_eq!(places(4, &[27.5, 25.0, 27.5]), [2]);
+    assert_eq!(places(4, &[27.0, 25.0, 27.0]), []);
+}
+
+#[test]
+fn row_8_two_of_three_on_two_sides() {
+    assert_eq!(places(4, &[27.5, 25.0, 22.5]), []);
+}
+
+/// 01's mark sheet of given marks.
+fn sheet(set: u16, marks: &[u16]) -> Vec<u8> {
+    let mut out = Vec::new();
+    let marked = marks.iter().filter(|&&m| m != 0).count();
+    for number in [marks.len(), usize::from(set), marked] {
+        format::put(&mut out, number as u64);
+    }
+    let mut skipped = 0;
+    for &m in marks {
+        if m == 0 {
+            skipped += 1;
+        } else {
+            format::put(&mut out, skipped);
+            format::put(&mut out, m.into());
+            skipped = 0;
+        }
+    }
+    out
+}
+
+#[test]
+fn row_10_the_sheet_of_ten() {
+    let nelson = 255;
+    let said = [
+        0x0a, 0xff, 0x01, 0x06, 0x04, 0x20, 0x00, 0x20, 0x00, 0x20, 0x00, 0xa0, 0x01, 0x00, 0xa2, 0x01, 0x00,
+        0xa2, 0x01,
+    ];
+    assert_eq!(sheet(nelson, &marks_under(LIMITS, nelson, &[26.5; 10])), said);
+}
+
+/// Everything else that 01's table says: its patterns, window by window.
+#[test]
+fn the_rust_marks_as_01_has_it() {
+    for case in cases::list(Part::Marks).into_iter().chain(cases::fresh(Part::Marks, 2000, 11)) {
+        let Case::Marks(c) = &case else { panic!("marks were asked for") };
+        let by_01 = Answer::Marks(by_01::marks(c));
+        assert_eq!(check::disagreements(&[(case, by_01)]), Vec::<String>::new());
+    }
+}
+
+// ---- sets and charts -------------------------------------------------------
+
+#[test]
+fn named_sets_have_01s_numbers() {
+    assert_eq!(judge::rule_set(1), RuleSet::shewhart());
+    assert_eq!(judge::rule_set(255), RuleSet::nelson());
+    assert_eq!(judge::rule_set(305), RuleSet::western_electric());
+    assert_eq!(judge::rule_set(0), RuleSet::none());
+}
+
+fn chart(kind: u8, size: usize, set: u16, values: &[f64]) -> ChartCase {
+    ChartCase { kind, size, set, values: values.to_vec() }
+}
+
+fn evaluated(case: ChartCase) -> Evaluation {
+    match judge::answer(&Case::Chart(case)) {
+        Answer::Evaluated(e) => e,
+        _ => panic!("the chart was refused"),
+    }
+}
+
+fn refusal(case: ChartCase) -> u8 {
+    match judge::answer(&Case::Chart(case)) {
+        Answer::Refused(number) => number,
+        _ => panic!("the chart was evaluated"),
+    }
+}
+
+#[test]
+fn three_observations_of_a_tenth_are_all_beyond() {
+    let e = evaluated(chart(1, 1, 1, &[0.1; 3]));
+    assert_eq!(e.main_limits.bits(), [0.10000000000000002f64.to_bits(); 3]);
+    assert_eq!(e.main_marks, [1, 1, 1]);
+    assert_eq!(e.dispersion_marks, [0, 0]);
+    assert_eq!((e.number_of_marks, e.in_control), (3, false));
+}
+
+#[test]
+fn the_report_of_01_has_three_marks() {
+    let e = evaluated(chart(1, 1, 64, &[8.0; 16]));
+    assert_eq!(e.main_limits.bits(), [8.0f64.to_bits(); 3]);
+    assert_eq!(e.dispersion_limits.bits(), [0; 3]);
+    // Positions 14 and 15, and 14 on the moving ranges: 01's V lines count that one as 15.
+    assert_eq!((e.main_marks[14], e.main_marks[15], e.dispersion_marks[14]), (64, 64, 64));
+    assert_eq!(e.number_of_marks, 3);
+}
+
+#[test]
+fn row_14_a_moving_range_of_zeros_is_positive() {
+    assert_eq!(evaluated(chart(1, 1, 1, &[0.0, -0.0])).dispersion[0].to_bits(), 0);
+}
+
+#[test]
+fn too_few_is_8_and_not_finite_is_7() {
+    assert_eq!(refusal(chart(1, 1, 1, &[])), 8);
+    assert_eq!(refusal(chart(1, 1, 1, &[25.0])), 8);
+    assert_eq!(refusal(chart(2, 2, 1, &[])), 8);
+    assert_eq!(refusal(chart(3, 2, 1, &[])), 8);
+    for kind in [2, 3] {
+        assert_eq!(refusal(chart(kind, 2, 1, &[f64::MAX, -f64::MAX])), 7);
+        assert_eq!(refusal(chart(kind, 2, 1, &[f64::MAX, f64::MAX])), 7);
+    }
+}
+
+/// The judge names the set last; naming it before the samples gives the same.
+#[test]
+fn the_set_may_be_named_first() {
+    for case in cases::fresh(Part::Charts, 300, 5) {
+        let Case::Chart(c) = &case else { panic!("a chart was asked for") };
+        let set = judge::rule_set(c.set);
+        let first = match c.kind {
+            1 => {
+                let r = judge::filled(IndividualMRChart::new().with_rules(set), c);
+                judge::told(&r, r.mr_limits(), r.mr_points(), 1, r.sigma_hat(), r.sigma_hat_df())
+            }
+            2 => {
+                let r = judge::filled(XBarRChart::new(c.size).unwrap().with_rules(set), c);
+                judge::told(&r, r.r_limits(), r.r_points(), 0, r.sigma_hat(), r.sigma_hat_df())
+            }
+            _ => {
+                let r = judge::filled(XBarSChart::new(c.size).unwrap().with_rules(set), c);
+                judge::told(&r, r.s_limits(), r.s_points(), 0, r.sigma_hat(), r.sigma_hat_df())
+            }
+        };
+        assert_eq!(check::disagreements(&[(case, first)]), Vec::<String>::new());
+    }
+}
+
+// ---- lists -----------------------------------------------------------------
+
+fn bytes_of(cases: Vec<Case>) -> Vec<u8> {
+    let judged: Vec<_> = cases.into_iter().map(|c| (c.clone(), judge::answer(&c))).collect();
+    format::write(&judged).remove(0)
+}
+
+/// A marks case of one value, 28.5, under 28, 25, 22 and set 1.
+fn short_list() -> Vec<u8> {
+    bytes_of(vec![Case::Marks(MarksCase { set: 1, limits: LIMITS, values: vec![28.5] })])
+}
+
+fn fault_of(bytes: &[u8]) -> (usize, String) {
+    let fault = format::read(bytes).err().expect("the bytes are no list");
+    (fault.at, fault.why)
+}
+
+#[test]
+fn the_example_of_format_md() {
+    let said = [
+        0x01, 0x01, 0x01, 0x01, // format, cases, tag, set
+        0x80, 0x80, 0x80, 0x80, 0x80, 0x80, 0x80, 0x9e, 0x40, // ucl
+        0x80, 0x80, 0x80, 0x80, 0x80, 0x80, 0xc0, 0x9c, 0x40, // cl
+        0x80, 0x80, 0x80, 0x80, 0x80, 0x80, 0x80, 0x9b, 0x40, // lcl
+        0x01, 0x80, 0x80, 0x80, 0x80, 0x80, 0x80, 0xa0, 0x9e, 0x40, // one value
+        0x01, 0x00, // its marks, end
+    ];
+    assert_eq!(short_list(), said);
+}
+
+#[test]
+fn a_list_reads_back_as_it_was_written() {
+    for part in [Part::Marks, Part::Charts] {
+        let bytes = bytes_of(cases::fresh(part, 50, 3));
+        let read = format::read(&bytes).expect("a list");
+        assert_eq!(format::write(&read).remove(0), bytes);
+    }
+}
+
+#[test]
+fn a_number_over_64_bits_or_too_long_is_refused() {
+    let most = [0xff, 0xff, 0xff, 0xff, 0xff, 0xff, 0xff, 0xff, 0xff, 0x01];
+    let mut over = most;
+    over[9] = 0x02;
+    assert_eq!(fault_of(&[1, 0x80, 0x00]), (1, "number of cases is longer than its shortest form".into()));
+    assert_eq!(fault_of(&[&[1][..], &over].concat()), (1, "number of cases is over 64 bits".into()));
+    let stated = fault_of(&[&[1][..], &most, &[0]].concat());
+    assert_eq!(stated, (1, "18446744073709551615 cases are stated, 0 stand there".into()));
+}
+
+#[test]
+fn every_cut_is_refused_at_the_number_it_cuts() {
+    let whole = short_list();
+    for n in 0..whole.len() {
+        let (at, why) = fault_of(&whole[..n]);
+        assert!(at <= n && why.starts_with("the bytes end at"), "cut at {n}: {at}, {why}");
+    }
+    assert_eq!(fault_of(&whole[..8]), (4, "the bytes end at ucl".into()));
+}
+
+#[test]
+fn a_number_out_of_place_is_refused() {
+    let whole = short_list();
+    let changed = |at: usize, byte: u8| {
+        let mut bytes = whole.clone();
+        bytes[at] = byte;
+        fault_of(&bytes)
+    };
+    assert_eq!(changed(0, 2), (0, "format number is 2, not 1 to 1".into()));
+    assert_eq!(changed(1, 2), (1, "2 cases are stated, 1 stand there".into()));
+    assert_eq!(changed(2, 3), (2, "tag is 3, not 0 to 2".into()));
+    let more = [&whole[..], &[0, 0]].concat();
+    assert_eq!(fault_of(&more), (whole.len(), "2 bytes are left over".into()));
+    assert_eq!(fault_of(&[1, 1, 2, 4]), (3, "kind is 4, not 1 to 3".into()));
+    assert_eq!(fault_of(&[1, 1, 2, 2, 26]), (4, "size is 26, not 2 to 25".into()));
+    assert_eq!(fault_of(&[1, 1, 2, 1, 1, 0x80, 0x04]), (5, "set is 512, not 0 to 511".into()));
+    assert_eq!(fault_of(&[1, 1, 2, 1, 1, 1, 0, 9]), (7, "answer is 9, not 0, 7 or 8".into()));
+}
+
+#[test]
+fn a_value_that_is_not_finite_is_refused() {
+    let mut bytes = vec![1, 1, 2, 1, 1, 1, 1];
+    format::put(&mut bytes, f64::INFINITY.to_bits());
+    assert_eq!(fault_of(&bytes), (7, "value is not finite".into()));
+}
+
+#[test]
+fn a_wrong_mark_is_told_with_its_window() {
+    let case = MarksCase { set: ALL, limits: LIMITS, values: vec![26.0; 12] };
+    let mut marks = judge::marks(&case);
+    marks[10] ^= 2;
+    let told = check::disagreements(&[(Case::Marks(case), Answer::Marks(marks))]);
+    let smallest = "smallest input: set 2, ucl 28.0, cl 25.0, lcl 22.0, 9 values [26.0 26.0 ";
+    assert_eq!(told.len(), 1);
+    assert!(told[0].starts_with("case 0: marks at 10: stored 256, Rust 258 (test 1)"), "{}", told[0]);
+    assert!(told[0].contains(smallest), "{}", told[0]);
+}
+
+#[test]
+fn smaller_cases_are_smaller() {
+    let size = |case: &Case| match case {
+        Case::Marks(c) => (c.values.len(), c.set.count_ones()),
+        Case::Chart(c) => (c.count(), c.set.count_ones()),
+    };
+    for case in cases::fresh(Part::Marks, 50, 1).iter().chain(&cases::fresh(Part::Charts, 50, 1)) {
+        assert!(smaller::of(case).iter().all(|s| size(s) < size(case)));
+    }
+}
