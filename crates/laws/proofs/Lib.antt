@@ -1,3 +1,4 @@
 -- Laws that more than one part cites.
 pub mod Bits
+pub mod Lists
 pub mod Filling

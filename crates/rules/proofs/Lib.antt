@@ -1,0 +1,4 @@
+-- The laws of marking.
+mod Windows
+mod ReadOff
+mod Bitwise
