@@ -1,0 +1,127 @@
+// The square root of an f64, rounded to the nearest f64 (document 01, "The charts").
+ghost use mathlib.Core.Path.{_≡_};
+ghost use Prim.Native.Nat.{_+_, _*_, _^_, _≤_, _<_};
+ghost use Rattle.root.specs.Root.{Allowed, numbered, rootOf};
+ghost use Rattle.root.specs.Steps.{infinity, Places, RootBits};
+
+/// What [`root`] answers.
+pub enum Rooted {
+    /// The nearest f64 to the root: number 0 of document 01, "Numbers a call may give back".
+    Root(f64),
+    /// The number is not finite, or it is below 0: number 3 of that list.
+    Refused,
+}
+
+// The bits of +infinity: the bits of every finite number that is not negative are below them.
+const INFINITY: u64 = 0x7ff0_0000_0000_0000;
+
+// The bits of -0.0.
+const MINUS_ZERO: u64 = 0x8000_0000_0000_0000;
+
+// The whole part of the root of a * 2^54, one binary digit a turn. Two binary digits of a * 2^54
+// at a time are shifted out of `rest` into `rem`, which holds what the square of the root's digits
+// so far, `r`, leaves of the number's digits so far. With one more digit d the square takes away
+// d * (4 * r + 1) besides, so d is 1 where that much is there. A mask takes it away, and no branch:
+// the digits of a root cannot be guessed by the processor.
+fn digits(a: u64) -> u64
+    requires { ⌜ a < 2 ^ 54 ⌝ }
+    ensures { λ r. ⌜ (r * r ≤ a * 2 ^ 54) × (a * 2 ^ 54 < (r + 1) * (r + 1)) ⌝ }
+{
+    let mut rest = a << 10;
+    let mut rem: u64 = 0;
+    let mut r: u64 = 0;
+    let mut i: u64 = 0;
+    while i < 54 {
+        rem = (rem << 2) | (rest >> 62);
+        rest = rest << 2;
+        let t = (r << 2) | 1;
+        let d = (t <= rem) as u64;
+        rem = rem - (t & std::num::wrapping_sub_u64(0, d));
+        r = (r << 1) | d;
+        i = i + 1;
+    }
+    r
+}
+
+// A finite number above 0, times 4^591, is s * 2^(p + 55), with s of 53 binary digits and p from 1.
+struct Placed {
+    s: u64,
+    p: u64,
+}
+
+// The number whose bits are b. A subnormal is brought up by its count of leading zeros.
+fn place(b: u64) -> Placed
+    requires { ⌜ (0 < b) × (b < infinity) ⌝ }
+    ensures { λ r. ⌜ Places b (r .s) (r .p) ⌝ }
+{
+    let field = b >> 52;
+    let t = b & 0xf_ffff_ffff_ffff;
+    if field == 0 {
+        let up = u64::leading_zeros(t) - 11;
+        Placed {
+            s: t << up,
+            p: 53 - up as u64,
+        }
+    } else {
+        Placed {
+            s: t | 0x10_0000_0000_0000,
+            p: field + 52,
+        }
+    }
+}
+
+// The bits of the root of the number whose bits are b. With k = (p - 1) / 2 the number times 4^591
+// is a * 2^54 * 4^(k + 1), where a is s or, to make the power left over one of 4, 2 * s. The root
+// of a * 2^54 has 54 binary digits, one more than an f64 holds, so the nearest f64 has half of it,
+// rounded up, for its digits m. There is no tie: a * 2^54 is even, and an odd number's square is
+// odd. The root is m * 2^(k - 589). An f64's field f stands for 2^(f - 1075), so that of the root is
+// k + 486: k + 485, and one more by m's own top bit.
+fn root_bits(b: u64) -> u64
+    requires { ⌜ (0 < b) × (b < infinity) ⌝ }
+    ensures { λ r. ⌜ RootBits b r ⌝ }
+{
+    let at = place(b);
+    let s = at.s;
+    let p = at.p;
+    let a = s << (1 - (p & 1));
+    let m = (digits(a) + 1) >> 1;
+    ((((p - 1) >> 1) + 485) << 52) + m
+}
+
+/// The square root of `x`, rounded to the nearest f64.
+///
+/// The root of +0.0 is +0.0, and that of -0.0 is -0.0. Every other root is above zero.
+///
+/// # Refusal
+///
+/// [`Rooted::Refused`], number 3 of document 01, where `x` is a NaN, an infinity or below zero.
+///
+/// # Example
+///
+/// ```
+/// match root::root(2.0) {
+///     Rooted::Root(r) => r,    // 1.4142135623730951
+///     Rooted::Refused => 0.0,
+/// }
+/// ```
+pub fn root(x: f64) -> Rooted
+    ensures nearest { λ r. ⌜ Allowed x (numbered r) ⌝ }
+    ensures is { λ r. ⌜ r ≡ rootOf x ⌝ }
+{
+    // only a NaN differs from itself
+    if x != x {
+        return Rooted::Refused;
+    }
+    let b = f64::to_bits(x);
+    if b == 0 {
+        return Rooted::Root(x);
+    }
+    if b == MINUS_ZERO {
+        return Rooted::Root(x);
+    }
+    if b < INFINITY {
+        Rooted::Root(f64::from_bits(root_bits(b)))
+    } else {
+        Rooted::Refused
+    }
+}
