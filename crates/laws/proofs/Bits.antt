@@ -137,10 +137,10 @@ or-into w low (b ∷ bs) h =
     let next = low ++ (b ∷ []) in
     let long : length next ≡ suc (length low) = length-append low (b ∷ []) ∙ omega arith in
     let put : bitOr (fromBits low) (one b * 2 ^ length low % 2 ^ w) ≡ fromBits next =
-      ap (bitOr (fromBits low)) (shl-exact 1 (length low) w (one-lt b) (omega arith))
-      ∙ or-shifted-r (one b) (length low) (fromBits low) (fromBits-lt low)
-      ∙ add-comm (one b * 2 ^ length low) (fromBits low)
-      ∙ sym (fromBits-snoc low b) in
+    ap (bitOr (fromBits low)) (shl-exact 1 (length low) w (one-lt b) (omega arith))
+    ∙ or-shifted-r (one b) (length low) (fromBits low) (fromBits-lt low)
+    ∙ add-comm (one b * 2 ^ length low) (fromBits low)
+    ∙ sym (fromBits-snoc low b) in
     ap₂ (λ (k n : ℕ). orInto w k n bs) (sym long) put
     ∙ or-into w next bs (omega (arith, long))
     ∙ ap fromBits (append-assoc low (b ∷ []) bs)

@@ -2,3 +2,4 @@
 pub mod Bits
 pub mod Lists
 pub mod Filling
+pub mod Refusals

@@ -49,7 +49,7 @@ four-of-five : (a b c d e : Bool)
 unfolding forAll count
 four-of-five a b c d e =
     let test : Bool → Bool → Bool → Bool → Bool → Bool = λ a b c d e.
-      Bool·beq ((((a && b) && c) && d) || (e && (((a && b) && (c || d)) || (((a || b) && c) && d)))) (leb 4 (count (a ∷ b ∷ c ∷ d ∷ e ∷ []))) in
+    Bool·beq ((((a && b) && c) && d) || (e && (((a && b) && (c || d)) || (((a || b) && c) && d)))) (leb 4 (count (a ∷ b ∷ c ∷ d ∷ e ∷ []))) in
     same _ _
     (for-all (test a b c d)
     (for-all (λ d. forAll (test a b c d))
@@ -174,14 +174,15 @@ module _ (c0 c1 c2 c3 c4 c5 c6 c7 c8 c9 c10 c11 c12 c13 c14 : ℕ) where
       ∷ []
       ≡ readOff codes
   unfolding readOff every
-  standing-is = cc
-    ( down c0 1 ∙ sym (and-true (hasBit c0 1))
-    , either all9 2 3 ∙ ap₂ _||_ (all9-has 2) (all9-has 3)
-    , either all5 4 5 ∙ ap₂ _||_ (all5-has 4) (all5-has 5)
-    , has-or (bitAnd (even / 2 ^ 4) (odd / 2 ^ 5)) (bitAnd (even / 2 ^ 5) (odd / 2 ^ 4)) 0
-      ∙ ap₂ _||_ (both-down even odd 4 5 ∙ turns-has 4 5) (both-down even odd 5 4 ∙ turns-has 5 4)
-    , has-and all3 (bitOr (two / 2 ^ 8) (two / 2 ^ 9)) 0 ∙ ap₂ _&&_ (all3-has 0) (either two 8 9 ∙ ap₂ _||_ (two-has 8) (two-has 9))
-    , has-and all5 (bitOr (four / 2 ^ 6) (four / 2 ^ 7)) 0 ∙ ap₂ _&&_ (all5-has 0) (either four 6 7 ∙ ap₂ _||_ (four-has 6) (four-has 7))
-    , down all15 10 ∙ all15-has 10
-    , down all8 11 ∙ all8-has 11
-    , either all8 2 3 ∙ ap₂ _||_ (all8-has 2) (all8-has 3) )
+  standing-is = cc (
+    down c0 1 ∙ sym (and-true (hasBit c0 1)),
+    either all9 2 3 ∙ ap₂ _||_ (all9-has 2) (all9-has 3),
+    either all5 4 5 ∙ ap₂ _||_ (all5-has 4) (all5-has 5),
+    has-or (bitAnd (even / 2 ^ 4) (odd / 2 ^ 5)) (bitAnd (even / 2 ^ 5) (odd / 2 ^ 4)) 0
+        ∙ ap₂ _||_ (both-down even odd 4 5 ∙ turns-has 4 5) (both-down even odd 5 4 ∙ turns-has 5 4),
+    has-and all3 (bitOr (two / 2 ^ 8) (two / 2 ^ 9)) 0 ∙ ap₂ _&&_ (all3-has 0) (either two 8 9 ∙ ap₂ _||_ (two-has 8) (two-has 9)),
+    has-and all5 (bitOr (four / 2 ^ 6) (four / 2 ^ 7)) 0 ∙ ap₂ _&&_ (all5-has 0) (either four 6 7 ∙ ap₂ _||_ (four-has 6) (four-has 7)),
+    down all15 10 ∙ all15-has 10,
+    down all8 11 ∙ all8-has 11,
+    either all8 2 3 ∙ ap₂ _||_ (all8-has 2) (all8-has 3),
+  )

@@ -2,3 +2,5 @@
 mod Windows
 mod ReadOff
 mod Bitwise
+mod Marks
+pub mod Accepted

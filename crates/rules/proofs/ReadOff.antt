@@ -114,13 +114,14 @@ module _ (l : Lines) (past : List Float) where
   -- a test is a line here: its bits and its window
   pub reads-stands : readOff codes ≡ map (stands l past) tests
   unfolding readOff tests stands window shows bitsOf
-  reads-stands = cc
-    ( run 1 1 (λ v. over (l .ucl) v || under (l .lcl) v) (λ u v. refl) (omega arith)
-    , run-either 2 3 9 (over (l .cl)) (under (l .cl)) (λ u v. refl) (λ u v. refl) (omega arith)
-    , trend 4 (omega arith)
-    , turns 12 (omega arith)
-    , counted 8 9 2 3 (over (l .above2)) (under (l .below2)) (λ u v. refl) (λ u v. refl) (λ u v. refl) (omega arith)
-    , counted 6 7 4 5 (over (l .above1)) (under (l .below1)) (λ u v. refl) (λ u v. refl) (λ u v. refl) (omega arith)
-    , run 10 15 (λ v. le (l .below1) v && le v (l .above1)) (λ u v. refl) (omega arith)
-    , run 11 8 (λ v. over (l .above1) v || under (l .below1) v) (λ u v. refl) (omega arith)
-    , run-either 2 3 8 (over (l .cl)) (under (l .cl)) (λ u v. refl) (λ u v. refl) (omega arith) )
+  reads-stands = cc (
+    run 1 1 (λ v. over (l .ucl) v || under (l .lcl) v) (λ u v. refl) (omega arith),
+    run-either 2 3 9 (over (l .cl)) (under (l .cl)) (λ u v. refl) (λ u v. refl) (omega arith),
+    trend 4 (omega arith),
+    turns 12 (omega arith),
+    counted 8 9 2 3 (over (l .above2)) (under (l .below2)) (λ u v. refl) (λ u v. refl) (λ u v. refl) (omega arith),
+    counted 6 7 4 5 (over (l .above1)) (under (l .below1)) (λ u v. refl) (λ u v. refl) (λ u v. refl) (omega arith),
+    run 10 15 (λ v. le (l .below1) v && le v (l .above1)) (λ u v. refl) (omega arith),
+    run 11 8 (λ v. over (l .above1) v || under (l .below1) v) (λ u v. refl) (omega arith),
+    run-either 2 3 8 (over (l .cl)) (under (l .cl)) (λ u v. refl) (λ u v. refl) (omega arith),
+  )

@@ -2,12 +2,13 @@
 -- comparison; the tests of a position are read off the fifteen codes that end there. Nothing here has to be believed: the proofs tie
 -- it to Marking.antt. Definitions only.
 use mathlib.Core.Bool.{Bool, true, false, _&&_, _||_}
+use mathlib.Core.Path.{_≡_}
 use mathlib.Core.List.{List, [], _∷_, map}
 use Prim.Native.Nat.{ℕ, zero, suc, _+_, _-_, _%_}
 use lib.Dec.{leb}
 use lib.Bits.{bitAnd}
 use lib.Ieee.{Float, nan, le}
-use lib.ListN.{length, take, drop, getD}
+use lib.ListN.{length, take, getD, replicate}
 use Rattle.laws.specs.Bools.{every, count}
 use Rattle.laws.specs.Bits.{hasBit, fromBits}
 use Rattle.laws.specs.Lists.{tabulate}
@@ -93,3 +94,9 @@ readOff cs =
 -- the marks of the set that are read off the fifteen codes from i on
 unfoldable pub marksRead : ℕ → List ℕ → ℕ → ℕ
 marksRead set cs i = bitAnd set (fromBits (readOff (lastOf cs i 15)))
+
+-- room for the codes of n values: as many wide numbers, and as many narrow ones behind fourteen zeros
+pub record Room (n : ℕ) (wide narrow : List ℕ) : Type 0 where
+  pub many : length wide ≡ n
+  pub behind : length narrow ≡ n + 14
+  pub zeros : take 14 narrow ≡ replicate 14 0

@@ -1,6 +1,7 @@
 // The nine tests on a series: what a mark means, and marking.
-pub mod finite;
 mod codes;
+pub mod finite;
+
 use sets::RuleSet;
 ghost use mathlib.Core.Path.{_≡_};
 ghost use lib.ListN.{length};
@@ -37,6 +38,21 @@ pub enum Marked {
     NotFinite,
     // The slice is shorter than the series (6).
     TooShort,
+}
+
+impl Marked {
+    // 01's number of the answer.
+    pub fn number(self) -> u8
+        ensures { λ r. ⌜ r ≡ numbered self ⌝ }
+    {
+        match self {
+            Marked::Done => 0,
+            Marked::TooMany => 5,
+            Marked::SetTooLarge => 4,
+            Marked::NotFinite => 3,
+            Marked::TooShort => 6,
+        }
+    }
 }
 
 // The lines of the limits.
@@ -90,15 +106,10 @@ pub fn mark(values: &[f64], limits: Limits, set: RuleSet, marks: &mut [u16]) -> 
     ensures answer { λ r. ⌜ numbered r ≡ answerOf limits (set .mask) (now (values .entry)) (length (now (marks .entry))) ⌝ }
     ensures marks { λ r. ⌜ now (marks .exit) ≡ marksAfter limits (set .mask) (now (values .entry)) (now (marks .entry)) ⌝ }
 {
-    let a = answer(values, limits, set, marks.len());
-    match a {
-        Marked::Done => {
-            codes::fill(lines_of(limits), set.mask, values, marks);
-            Marked::Done
-        }
-        Marked::TooMany => Marked::TooMany,
-        Marked::SetTooLarge => Marked::SetTooLarge,
-        Marked::NotFinite => Marked::NotFinite,
-        Marked::TooShort => Marked::TooShort,
+    let answered = answer(values, limits, set, marks.len());
+    if answered.number() != 0 {
+        return answered;
     }
+    codes::fill(lines_of(limits), set.mask, values, marks);
+    answered
 }

@@ -48,12 +48,12 @@ loop-less : tie.Need-loop-less Inv-loop μ-loop
 loop-less c = search needs
 
 loop-again : tie.Need-loop-again Inv-loop μ-loop
-loop-again c = 
+loop-again c =
     let values = c .before .before .before .before .before .before .before .before .args .values .now in
     let i = c .before .before .before .loop .i in
     let last : i ≡ i + 1 - 1 = omega arith in
     let is : c .code-of .result ≡ codeAt (c .before .before .before .before .before .before .before .before .args .l) values i =
-      c .code-of .ensures ∙ ap (λ (u : Float). codeOf (c .before .before .before .before .before .before .before .before .args .l) u (getD values i nan)) (c .before .before .before .loop .inv .1) ∙ unfold codeAt in refl in
+    c .code-of .ensures ∙ ap (λ (u : Float). codeOf (c .before .before .before .before .before .before .before .before .args .l) u (getD values i nan)) (c .before .before .before .loop .inv .1) ∙ unfold codeAt in refl in
     (tabling-goes-on (codeAt (c .before .before .before .before .before .before .before .before .args .l) (c .before .before .before .before .before .before .before .before .args .values .now)) (length (c .before .before .before .before .before .before .before .before .args .values .now)) (c .before .before .before .before .before .before .before .before .args .out .now) (c .before .before .before .loop .out) (c .before .before .before .loop .i) (c .before .before .before .loop .inv .0) (c .code-of .result) (c .before .before .loop-test .taken) is, ap (λ (k : ℕ). getD values k nan) last)
 
 same-length : tie.Need-same-length Inv-loop μ-loop

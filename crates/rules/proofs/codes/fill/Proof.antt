@@ -1,47 +1,39 @@
+-- `rules::codes::fill` meets its contract: its arrays are room for the codes. Assumes nothing.
+use Prim.Native.Nat.{ℕ, _+_, _-_, _≤_}
+use native.Mathlib.Omega.{arith}
+use lib.ListN.{length}
+use Rattle.rules.proofs.Marks.{room-for}
 use borrow.Author.Needs.{needs}
 use Rattle.rules.proofs.codes.fill.Statement.{statement}
 use Rattle.rules.proofs.codes.fill.Tie as tie
-use Rattle.rules.proofs.codes.fill.Reads as reads
-use Rattle.rules.proofs.codes.fill.Lts as lts
-use Rattle.rules.proofs.codes.mark_in.Reads as mark-in-reads
 
--- src/codes.rt:138:13
 add-m : tie.Need-add-m
 add-m c = search needs
 
--- src/codes.rt:141:29
 sub-mark-in : tie.Need-sub-mark-in
 sub-mark-in c = search needs
 
--- src/codes.rt:141:29
 part-wide-start : tie.Need-part-wide-start
 part-wide-start c = search needs
 
--- src/codes.rt:141:29
 part-wide-end : tie.Need-part-wide-end
 part-wide-end c = search needs
 
--- src/codes.rt:141:46
 sub-mark-in-2 : tie.Need-sub-mark-in-2
 sub-mark-in-2 c = search needs
 
--- src/codes.rt:141:46
 part-c-start : tie.Need-part-c-start
 part-c-start c = search needs
 
--- src/codes.rt:141:46
 part-c-end : tie.Need-part-c-end
 part-c-end c = search needs
 
--- src/codes.rt:141:5
 mark-in-requires : tie.Need-mark-in-requires
-mark-in-requires c κs = ?
+mark-in-requires c κs = (room-for (length (c .before .before .before .before .before .args .values .now)) (length (c .before .before .before .before .before .args .values .now) - 0) (length (c .before .before .before .before .before .args .values .now) + 14 - 0) (omega arith) (omega arith) (omega arith), c .before .before .before .before .before .pre .1)
 
--- src/codes.rt:133:1
 same-length : tie.Need-same-length
 same-length c = search needs
 
--- src/codes.rt:133:1
 returns : tie.Need-returns
 returns c = search needs
 

@@ -1,51 +1,49 @@
+-- `rules::codes::mark_in` meets its contract: the codes stand behind the zeros, and the marks read off them are those of the series.
+-- Assumes nothing.
+use mathlib.Core.Path.{ap, _∙_}
+use mathlib.Core.List.{List}
+use Prim.Native.Nat.{ℕ}
+use Rattle.laws.specs.Front.{atFront}
+use Rattle.rules.proofs.Marks.{codes-behind, all-marks}
 use borrow.Author.Needs.{needs}
 use Rattle.rules.proofs.codes.mark_in.Statement.{statement}
 use Rattle.rules.proofs.codes.mark_in.Tie as tie
-use Rattle.rules.proofs.codes.mark_in.Reads as reads
-use Rattle.rules.proofs.codes.mark_in.Lts as lts
-use Rattle.rules.proofs.codes.codes.Reads as codes-reads
-use Rattle.rules.proofs.codes.narrow.Reads as narrow-reads
-use Rattle.rules.proofs.codes.read_marks.Reads as read-marks-reads
 
--- src/codes.rt:127:5
 codes-requires : tie.Need-codes-requires
 codes-requires c κs = search needs
 
--- src/codes.rt:128:18
 sub-narrow : tie.Need-sub-narrow
-sub-narrow c = ?
+sub-narrow c = search needs
 
--- src/codes.rt:128:18
 part-narrow-start : tie.Need-part-narrow-start
-part-narrow-start c = ?
+part-narrow-start c = search needs
 
--- src/codes.rt:128:18
 part-narrow-end : tie.Need-part-narrow-end
 part-narrow-end c = search needs
 
--- src/codes.rt:128:5
 narrow-requires : tie.Need-narrow-requires
-narrow-requires c κs = ?
+narrow-requires c κs = search needs
 
--- src/codes.rt:129:5
 read-marks-requires : tie.Need-read-marks-requires
-read-marks-requires c κs = ?
+read-marks-requires c κs = search needs
 
--- src/codes.rt:123:1
 same-length : tie.Need-same-length
 same-length c = search needs
 
--- src/codes.rt:123:1
 same-length-2 : tie.Need-same-length-2
 same-length-2 c = search needs
 
--- src/codes.rt:123:1
 same-length-3 : tie.Need-same-length-3
 same-length-3 c = search needs
 
--- src/codes.rt:123:1
 returns : tie.Need-returns
-returns c = ?
+returns c =
+    let a = c .before .before .before .before .before .before .before .before .before .before .before .before .before .before .before .before .before .before .args in
+    let room = c .before .before .before .before .before .before .before .before .before .before .before .before .before .before .before .before .before .before .pre .0 in
+    c .before .before .read-marks .ensures
+    ∙ ap (λ (marks : List ℕ). atFront marks (a .out .now))
+    (all-marks (a .l) (a .values .now) (a .set) _
+    (codes-behind (a .l) (a .values .now) (a .wide .now) (a .c .now) room _ _ (c .before .before .before .before .before .before .before .before .before .before .before .before .codes .ensures) (c .before .before .before .before .before .before .before .narrow .ensures)))
 
 pub mark-in-spec : {M : Type 1} → statement M
 mark-in-spec =

@@ -1,0 +1,2 @@
+-- The laws of rule sets.
+pub mod Parts
