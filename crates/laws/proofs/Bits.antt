@@ -1,22 +1,21 @@
 -- The bits of and, or, shifts and of a list's number; a number is known by its bits. Assumes nothing.
-use mathlib.Core.Path.{_≡_, refl, sym, ap, _∙_}
+use mathlib.Core.Path.{_≡_, refl, sym, ap, ap₂, _∙_}
 use mathlib.Core.Bool.{Bool, true, false, _&&_, _||_}
-use mathlib.Core.List.{List, [], _∷_}
+use mathlib.Core.List.{List, [], _∷_, _++_, map, append-nil, append-assoc}
 use Prim.Native.Nat.{ℕ, zero, suc, _+_, _*_, _/_, _%_, _^_, _≤_, _<_, min, max}
 use native.Mathlib.Omega.{arith}
-use native.Mathlib.Nat.{div-one, zero-div, mod-lt, zero-lt-suc, pow-suc, min-le-left, mod-eq-of-lt}
+use native.Mathlib.Nat.{div-one, zero-div, mod-lt, zero-lt-suc, pow-suc, min-le-left, add-comm, mul-assoc}
 use native.Mathlib.Numerals.{one-add}
 use lib.Dec.{eqb}
-use lib.ListN.{length, getD}
-use lib.Bits.{bitAnd, bitOr, and-step, and-shr, and-mask, or-step, or-shr, or-shifted}
-use lib.Pow.{shr-shr}
-use borrow.Author.Tests.{eqb-true}
+use lib.ListN.{length, getD, length-append, length-map}
+use lib.Bits.{bitAnd, bitOr, and-step, and-shr, and-mask, or-step, or-shr, or-shifted-r}
+use lib.Pow.{shr-shr, shl-exact}
 use Rattle.laws.specs.Bools.{one}
 use Rattle.laws.specs.Bits.{hasBit, fromBits}
 
 -- ---- one digit
 
-one-lt : (b : Bool) → one b < 2
+pub one-lt : (b : Bool) → one b < 2
 one-lt true = omega arith
 one-lt false = omega arith
 
@@ -89,11 +88,6 @@ unfolding fromBits
 fromBits-lt [] = omega arith
 fromBits-lt (b ∷ bs) = omega (arith, fromBits-lt bs, one-lt b, pow-suc 2 (length bs))
 
--- one more bit in front, by a shift and an or within a width
-pub push-bit : (w : ℕ) (b : Bool) (bs : List Bool) → fromBits bs * 2 < 2 ^ w → bitOr (fromBits bs * 2 % 2 ^ w) (one b) ≡ fromBits (b ∷ bs)
-push-bit w b bs h =
-    ap (λ (n : ℕ). bitOr n (one b)) (mod-eq-of-lt h) ∙ or-shifted (fromBits bs) 1 (one b) (one-lt b) ∙ sym (fromBits-cons b bs)
-
 pub has-fromBits : (bs : List Bool) (k : ℕ) → hasBit (fromBits bs) k ≡ getD bs k false
 unfolding hasBit fromBits
 has-fromBits [] k = rw zero-div refl
@@ -121,3 +115,52 @@ known-by-bits (b ∷ bs) n h f =
   where
     low : (n : ℕ) (b : Bool) → hasBit n 0 ≡ b → n % 2 ≡ one b
     low n b e = sym (and-mask n 1) ∙ low-bit n ∙ ap one e
+
+-- ---- a number put together by shifts and ors, bit by bit
+
+-- the bits from k on, each shifted to its place within a width and put into what is there
+abbrev pub orInto : ℕ → ℕ → ℕ → List Bool → ℕ
+orInto w k n [] = n
+orInto w k n (b ∷ bs) = orInto w (suc k) (bitOr n (one b * 2 ^ k % 2 ^ w)) bs
+
+fromBits-snoc : (bs : List Bool) (b : Bool) → fromBits (bs ++ (b ∷ [])) ≡ fromBits bs + one b * 2 ^ length bs
+unfolding fromBits
+fromBits-snoc [] b = omega arith
+fromBits-snoc (c ∷ bs) b =
+    let far : one b * 2 ^ suc (length bs) ≡ one b * 2 ^ length bs * 2 = ap (λ (x : ℕ). one b * x) (pow-suc 2 (length bs)) ∙ sym (mul-assoc (one b) (2 ^ length bs) 2) in
+    omega (arith, fromBits-snoc bs b, far)
+
+or-into : (w : ℕ) (low bs : List Bool) → length low + length bs ≤ w → orInto w (length low) (fromBits low) bs ≡ fromBits (low ++ bs)
+or-into w low [] h = ap fromBits (sym (append-nil low))
+or-into w low (b ∷ bs) h =
+    let next = low ++ (b ∷ []) in
+    let long : length next ≡ suc (length low) = length-append low (b ∷ []) ∙ omega arith in
+    let put : bitOr (fromBits low) (one b * 2 ^ length low % 2 ^ w) ≡ fromBits next =
+    ap (bitOr (fromBits low)) (shl-exact 1 (length low) w (one-lt b) (omega arith))
+    ∙ or-shifted-r (one b) (length low) (fromBits low) (fromBits-lt low)
+    ∙ add-comm (one b * 2 ^ length low) (fromBits low)
+    ∙ sym (fromBits-snoc low b) in
+    ap₂ (λ (k n : ℕ). orInto w k n bs) (sym long) put
+    ∙ or-into w next bs (omega (arith, long))
+    ∙ ap fromBits (append-assoc low (b ∷ []) bs)
+
+pub or-bits : (w : ℕ) (b : Bool) (bs : List Bool) → 1 + length bs ≤ w → orInto w 1 (one b) bs ≡ fromBits (b ∷ bs)
+or-bits w b bs h =
+    let low : one b ≡ fromBits (b ∷ []) = unfold fromBits in omega arith in
+    ap (λ (n : ℕ). orInto w 1 n bs) low ∙ or-into w (b ∷ []) bs h
+
+-- the same of the lowest bits of numbers
+abbrev pub orLow : ℕ → ℕ → ℕ → List ℕ → ℕ
+orLow w k n [] = n
+orLow w k n (t ∷ ts) = orLow w (suc k) (bitOr n (bitAnd t 1 * 2 ^ k % 2 ^ w)) ts
+
+low-into : (w k n : ℕ) (ts : List ℕ) → orLow w k n ts ≡ orInto w k n (map (λ t. hasBit t 0) ts)
+low-into w k n [] = refl
+low-into w k n (t ∷ ts) =
+    ap (λ (b : ℕ). orLow w (suc k) (bitOr n (b * 2 ^ k % 2 ^ w)) ts) (low-bit t) ∙ low-into w (suc k) (bitOr n (one (hasBit t 0) * 2 ^ k % 2 ^ w)) ts
+
+pub or-low : (w t : ℕ) (ts : List ℕ) → 1 + length ts ≤ w → orLow w 1 (bitAnd t 1) ts ≡ fromBits (map (λ t. hasBit t 0) (t ∷ ts))
+or-low w t ts h =
+    low-into w 1 (bitAnd t 1) ts
+    ∙ ap (λ (n : ℕ). orInto w 1 n (map (λ t. hasBit t 0) ts)) (low-bit t)
+    ∙ or-bits w (hasBit t 0) (map (λ t. hasBit t 0) ts) (rw (length-map ts (λ t. hasBit t 0)) h)

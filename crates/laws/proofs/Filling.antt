@@ -8,7 +8,9 @@ use native.Mathlib.Numerals.{add-one}
 use native.Mathlib.Omega.{arith}
 use lib.ListN.{length, getD, take, drop, set, length-drop, length-append}
 use lib.Seq.{paste, paste-suc, length-take-le, take-length}
+use Rattle.laws.specs.Lists.{tabulate}
 use Rattle.laws.specs.Front.{atFront}
+use Rattle.laws.proofs.Lists.{length-tabulate, getD-tabulate}
 
 module _ {A : Type 0} where
   -- the first n entries of xs, and from n on what was there before
@@ -53,3 +55,25 @@ module _ {A : Type 0} (xs old : List A) where
     filling-ends h =
         let all : i ≡ length xs = omega (arith, f .within) in
         f .holds ∙ ap (filled xs old) all ∙ ap (λ (l : List A). l ++ drop (length xs) old) (take-length xs)
+
+-- The same where the list is a table: entry i is f i.
+module _ {A : Type 0} (f : ℕ → A) (n : ℕ) (old : List A) where
+  abbrev pub Tabling : List A → ℕ → Type 0
+  Tabling now i = Filling (tabulate f n) old now i
+
+  pub tabling-starts : n ≤ length old → Tabling old 0
+  tabling-starts h = filling-starts (tabulate f n) old (rw (length-tabulate f n) h)
+
+  module _ (now : List A) (i : ℕ) (t : Tabling now i) where
+    pub tabling-length : length now ≡ length old
+    tabling-length = filling-length (tabulate f n) old now i t
+
+    pub tabling-room : i < n → i < length now
+    tabling-room h = omega (arith, t .room, length-tabulate f n, tabling-length)
+
+    pub tabling-goes-on : (x : A) → i < n → x ≡ f i → Tabling (set now i x) (i + 1)
+    tabling-goes-on x h e =
+        filling-goes-on (tabulate f n) old now i t x x (omega (arith, length-tabulate f n)) (e ∙ sym (getD-tabulate f n i x h))
+
+    pub tabling-ends : n ≤ i → now ≡ atFront (tabulate f n) old
+    tabling-ends h = filling-ends (tabulate f n) old now i t (omega (arith, length-tabulate f n))

@@ -1,6 +1,6 @@
 -- The bits of a number as a list: they make the number again, and as many are set as the code's count of ones says. Assumes nothing.
 use mathlib.Core.Path.{_≡_, refl, sym, ap, ap₂, _∙_}
-use mathlib.Core.Bool.{Bool, true, false}
+use mathlib.Core.Bool.{Bool}
 use mathlib.Core.List.{List, [], _∷_}
 use Prim.Native.Nat.{ℕ, zero, suc, _+_, _*_, _/_, _%_, _^_, _<_}
 use native.Mathlib.Omega.{arith}
@@ -11,7 +11,7 @@ use lib.Bits.{and-mask}
 use lib.Pow.{shr-shr}
 use Rattle.laws.specs.Bools.{one, count}
 use Rattle.laws.specs.Bits.{hasBit, fromBits}
-use Rattle.laws.proofs.Bits.{has-shr, low-bit}
+use Rattle.laws.proofs.Bits.{one-lt, has-shr, low-bit}
 
 -- the w bits of n from bit k on
 abbrev pub bitsFrom : ℕ → ℕ → ℕ → List Bool
@@ -42,7 +42,3 @@ ones-fromBits (b ∷ bs) =
     let odd : (fromBits bs * 2 + one b) % 2 ≡ one b = omega (arith, one-lt b) in
     let half : (fromBits bs * 2 + one b) / 2 ≡ fromBits bs = omega (arith, one-lt b) in
     ones-step (fromBits bs * 2 + one b) ∙ ap₂ _+_ odd (ap ones half ∙ ones-fromBits bs)
-  where
-    one-lt : (b : Bool) → one b < 2
-    one-lt true = omega arith
-    one-lt false = omega arith

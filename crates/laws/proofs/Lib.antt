@@ -2,4 +2,6 @@
 pub mod Bits
 pub mod OneBit
 pub mod FirstBits
+pub mod Lists
 pub mod Filling
+pub mod Refusals

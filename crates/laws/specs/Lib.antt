@@ -2,4 +2,5 @@
 pub mod Bools
 pub mod Bits
 pub mod Refusals
+pub mod Lists
 pub mod Front

@@ -1,13 +1,14 @@
 -- A rule set's number and its tests: a set is made of its tests and known by them. Assumes nothing.
 use mathlib.Core.Path.{_≡_, refl, sym, ap, _∙_, fun-ext}
-use mathlib.Core.Bool.{Bool, true, false}
+use mathlib.Core.Bool.{Bool, true, false, _&&_}
 use mathlib.Core.List.{List, map}
 use Prim.Native.Nat.{ℕ, _≤_, _<_}
 use native.Mathlib.Omega.{arith}
 use lib.ListN.{getD}
 use lib.Dec.{ltb}
+use lib.Bits.{bitAnd, and-le-r}
 use borrow.Author.Tests.{eqb-true, ltb-true}
-use Rattle.laws.proofs.Bits.{fromBits-lt, has-fromBits}
+use Rattle.laws.proofs.Bits.{has-and, fromBits-lt, has-fromBits}
 use Rattle.laws.proofs.FirstBits.{bits-again}
 use Rattle.sets.specs.declared.Test.{Test}
 use Rattle.sets.specs.declared.Test.the-variants.{BeyondLimits, NineOneSide, SixTrend, FourteenAlternating, TwoOfThreeBeyond2Sigma, FourOfFiveBeyond1Sigma, FifteenWithin1Sigma, EightBeyond1Sigma, EightOneSide}
@@ -63,3 +64,9 @@ setOf-has set h = bits-again 9 set (omega arith)
 -- a set is known by its tests
 pub known-by-tests : (set : ℕ) (p : Test → Bool) → set ≤ 511 → ((t : Test) → has set t ≡ p t) → set ≡ setOf p
 known-by-tests set p h f = sym (setOf-has set h) ∙ ap setOf (fun-ext f)
+
+-- the and of a set and of some tests has those of the tests that the set has
+pub and-setOf : (set : ℕ) (p : Test → Bool) → bitAnd set (setOf p) ≡ setOf (λ t. has set t && p t)
+and-setOf set p =
+    known-by-tests (bitAnd set (setOf p)) (λ (t : Test). has set t && p t) (omega (arith, and-le-r set (setOf p), setOf-lt p))
+    (λ t. unfold has in has-and set (setOf p) (bitOf t) ∙ ap (λ (b : Bool). has set t && b) (has-setOf p t))

@@ -1,0 +1,6 @@
+-- What a mark means, in the order in which to read it.
+pub mod Lines
+pub mod Tests
+pub mod Finite
+pub mod Marking
+pub mod Codes

@@ -1,0 +1,65 @@
+-- What a mark means, and what marking answers and leaves in the lent slice (01, 'The nine tests', 'Numbers a call may give back').
+-- Definitions only.
+use mathlib.Core.Bool.{Bool, not, _&&_, cond}
+use mathlib.Core.List.{List, [], _∷_}
+use Prim.Native.Nat.{ℕ, zero, suc}
+use lib.Dec.{leb, ltb, eqb}
+use lib.Ieee.{Float, nan}
+use lib.ListN.{length, take, getD}
+use Rattle.laws.specs.Refusals.{firstOf}
+use Rattle.laws.specs.Lists.{tabulate}
+use Rattle.laws.specs.Front.{atFront}
+use Rattle.sets.specs.declared.Test.{Test}
+use Rattle.sets.specs.Sets.{has, setOf}
+use Rattle.rules.specs.declared.Limits.{Limits}
+use Rattle.rules.specs.declared.Lines.{Lines}
+use Rattle.rules.specs.declared.Marked.{Marked}
+use Rattle.rules.specs.declared.Marked.the-variants.{Done, TooMany, SetTooLarge, NotFinite, TooShort}
+use Rattle.rules.specs.Lines.{linesOf}
+use Rattle.rules.specs.Tests.{window, shows}
+use Rattle.rules.specs.Finite.{allFinite, finiteLimits}
+
+-- ---- marks
+
+-- The first n values, newest first. Here alone is said which values stand next to each other: those next to each other in the series.
+unfoldable pub newestFirst : List Float → ℕ → List Float
+newestFirst values zero = []
+newestFirst values (suc i) = getD values i nan ∷ newestFirst values i
+
+-- the window of the test that ends at the newest value fits, and shows the test's pattern
+unfoldable pub stands : Lines → List Float → Test → Bool
+stands l past t = leb (window t) (length past) && shows t l (take (window t) past)
+
+-- the marks at position i: the tests that the set has and that stand there
+unfoldable pub marksAt : Lines → ℕ → List Float → ℕ → ℕ
+marksAt l set values i = setOf (λ t. has set t && stands l (newestFirst values (suc i)) t)
+
+-- those of every position of the series
+unfoldable pub marksOf : Limits → ℕ → List Float → List ℕ
+marksOf limits set values = tabulate (marksAt (linesOf limits) set values) (length values)
+
+-- ---- what marking answers
+
+-- 01's number of each answer
+abbrev pub numbered : Marked → ℕ
+numbered Done = 0
+numbered TooMany = 5
+numbered SetTooLarge = 4
+numbered NotFinite = 3
+numbered TooShort = 6
+
+-- Marking: 5, 4, 3 for limits, 3 for values, 6. `room` is how many entries the lent slice has.
+unfoldable pub answerOf : Limits → ℕ → List Float → ℕ → ℕ
+answerOf limits set values room =
+    firstOf
+    ((ltb 4096 (length values), 5)
+    ∷ (ltb 511 set, 4)
+    ∷ (not (finiteLimits limits), 3)
+    ∷ (not (allFinite values), 3)
+    ∷ (ltb room (length values), 6)
+    ∷ [])
+    0
+
+-- the slice afterwards: the marks at its front where nothing was refused, else as it came
+unfoldable pub marksAfter : Limits → ℕ → List Float → List ℕ → List ℕ
+marksAfter limits set values old = cond (eqb (answerOf limits set values (length old)) 0) (atFront (marksOf limits set values) old) old

@@ -1,0 +1,115 @@
+// The nine tests on a series: what a mark means, and marking.
+mod codes;
+pub mod finite;
+
+use sets::RuleSet;
+ghost use mathlib.Core.Path.{_≡_};
+ghost use lib.ListN.{length};
+ghost use Rattle.rules.specs.Lines.{linesOf};
+ghost use Rattle.rules.specs.Marking.{numbered, answerOf, marksAfter};
+
+// Control limits: the upper limit, the centre line, the lower limit.
+pub struct Limits {
+    pub ucl: f64,
+    pub cl: f64,
+    pub lcl: f64,
+}
+
+// The lines that the tests compare with: the limits, and one and two sigma above and below the centre line.
+pub struct Lines {
+    pub ucl: f64,
+    pub cl: f64,
+    pub lcl: f64,
+    pub above1: f64,
+    pub below1: f64,
+    pub above2: f64,
+    pub below2: f64,
+}
+
+// What marking answers.
+pub enum Marked {
+    // The marks stand at the front of the slice (0).
+    Done,
+    // There are more than 4,096 values (5).
+    TooMany,
+    // The set's mask is over 511 (4).
+    SetTooLarge,
+    // A limit or a value is not finite (3).
+    NotFinite,
+    // The slice is shorter than the series (6).
+    TooShort,
+}
+
+impl Marked {
+    // 01's number of the answer.
+    pub fn number(self) -> u8
+        ensures { λ r. ⌜ r ≡ numbered self ⌝ }
+    {
+        match self {
+            Marked::Done => 0,
+            Marked::TooMany => 5,
+            Marked::SetTooLarge => 4,
+            Marked::NotFinite => 3,
+            Marked::TooShort => 6,
+        }
+    }
+}
+
+// The lines of the limits.
+fn lines_of(l: Limits) -> Lines
+    ensures { λ r. ⌜ r ≡ linesOf l ⌝ }
+{
+    let s = (l.ucl - l.cl) / 3.0;
+    let t = 2.0 * s;
+    Lines {
+        ucl: l.ucl,
+        cl: l.cl,
+        lcl: l.lcl,
+        above1: l.cl + s,
+        below1: l.cl - s,
+        above2: l.cl + t,
+        below2: l.cl - t,
+    }
+}
+
+// What marking answers, before anything is written: the first refusal that applies, or `Done`.
+fn answer(values: &[f64], limits: Limits, set: RuleSet, room: usize) -> Marked
+    ensures { λ r. ⌜ numbered r ≡ answerOf limits (set .mask) (now (values .entry)) room ⌝ }
+{
+    if 4096 < values.len() {
+        return Marked::TooMany;
+    }
+    if 511 < set.mask {
+        return Marked::SetTooLarge;
+    }
+    if !finite::finite_limits(limits) {
+        return Marked::NotFinite;
+    }
+    if !finite::all_finite(values) {
+        return Marked::NotFinite;
+    }
+    if room < values.len() {
+        return Marked::TooShort;
+    }
+    Marked::Done
+}
+
+// Marks every position of a series: test b of the set is set in bit b of `marks[i]` exactly where the window of the
+// test that ends at position i fits and shows the test's pattern.
+//
+// Gives `Done` and fills the front of `marks`, one entry for each value; entries past them are untouched. Refuses, in
+// this order and with `marks` as it came: more than 4,096 values (5), a set over 511 (4), limits that are not all
+// finite (3), values that are not all finite (3), a slice shorter than the series (6).
+//
+// Nine values of 26.0 with the limits 28.0, 25.0, 22.0 and the set nelson get 32 at positions 4, 5 and 6, 160 at 7, 162 at 8.
+pub fn mark(values: &[f64], limits: Limits, set: RuleSet, marks: &mut [u16]) -> Marked
+    ensures answer { λ r. ⌜ numbered r ≡ answerOf limits (set .mask) (now (values .entry)) (length (now (marks .entry))) ⌝ }
+    ensures marks { λ r. ⌜ now (marks .exit) ≡ marksAfter limits (set .mask) (now (values .entry)) (now (marks .entry)) ⌝ }
+{
+    let answered = answer(values, limits, set, marks.len());
+    if answered.number() != 0 {
+        return answered;
+    }
+    codes::fill(lines_of(limits), set.mask, values, marks);
+    answered
+}
