@@ -3,4 +3,6 @@ mod Windows
 mod ReadOff
 mod Bitwise
 mod Marks
+mod Single
 pub mod Accepted
+pub mod Meaning

@@ -180,11 +180,28 @@ fn mark_in(l: Lines, set: u16, values: &[f64], wide: &mut [u64], c: &mut [u16], 
     read_marks(set, c, out);
 }
 
+// The same for a set that has no test but the first, whose windows are single values: no codes are needed.
+fn mark_beyond(l: Lines, set: u16, values: &[f64], out: &mut [u16])
+    requires { ⌜ (set < 2) × (length (now values) ≤ length (now out)) ⌝ }
+    ensures { λ _. ⌜ now (out .exit) ≡ atFront (tabulate (marksAt l set (now (values .entry))) (length (now (values .entry)))) (now (out .entry)) ⌝ }
+{
+    let mut i = 0;
+    while i < values.len() {
+        let v = values[i];
+        out[i] = set & (((l.ucl < v) | (v < l.lcl)) as u16);
+        i += 1;
+    }
+}
+
 // The marks of every position at the front of `out`.
 pub fn fill(l: Lines, set: u16, values: &[f64], out: &mut [u16])
     requires { ⌜ (length (now values) ≤ 4096) × (length (now values) ≤ length (now out)) ⌝ }
     ensures { λ _. ⌜ now (out .exit) ≡ atFront (tabulate (marksAt l set (now (values .entry))) (length (now (values .entry)))) (now (out .entry)) ⌝ }
 {
+    if set < 2 {
+        mark_beyond(l, set, values, out);
+        return;
+    }
     let n = values.len();
     let m = n + 14;
     let mut wide = [0u64; 4096];

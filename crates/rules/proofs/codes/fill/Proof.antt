@@ -1,11 +1,20 @@
 -- `rules::codes::fill` meets its contract: its arrays are room for the codes. Assumes nothing.
-use Prim.Native.Nat.{ℕ, _+_, _-_, _≤_}
+use Prim.Native.Nat.{ℕ, _+_, _-_}
 use native.Mathlib.Omega.{arith}
 use lib.ListN.{length}
 use Rattle.rules.proofs.Marks.{room-for}
 use borrow.Author.Needs.{needs}
 use Rattle.rules.proofs.codes.fill.Statement.{statement}
 use Rattle.rules.proofs.codes.fill.Tie as tie
+
+mark-beyond-requires : tie.Need-mark-beyond-requires
+mark-beyond-requires c κs = search needs
+
+same-length : tie.Need-same-length
+same-length c = search needs
+
+returns : tie.Need-returns
+returns c = search needs
 
 add-m : tie.Need-add-m
 add-m c = search needs
@@ -29,18 +38,23 @@ part-c-end : tie.Need-part-c-end
 part-c-end c = search needs
 
 mark-in-requires : tie.Need-mark-in-requires
-mark-in-requires c κs = (room-for (length (c .before .before .before .before .before .args .values .now)) (length (c .before .before .before .before .before .args .values .now) - 0) (length (c .before .before .before .before .before .args .values .now) + 14 - 0) (omega arith) (omega arith) (omega arith), c .before .before .before .before .before .pre .1)
+mark-in-requires c κs =
+    let n = length (c .before .before .before .before .before .before .args .values .now) in
+    (room-for n (n - 0) (n + 14 - 0) (omega arith) (omega arith) (omega arith), c .before .before .before .before .before .before .pre .1)
 
-same-length : tie.Need-same-length
-same-length c = search needs
+same-length-2 : tie.Need-same-length-2
+same-length-2 c = search needs
 
-returns : tie.Need-returns
-returns c = search needs
+returns-2 : tie.Need-returns-2
+returns-2 c = search needs
 
 pub fill-spec : {M : Type 1} → statement M
 fill-spec =
     tie.close
     (tie.spec
+    mark-beyond-requires
+    same-length
+    returns
     add-m
     sub-mark-in
     part-wide-start
@@ -49,5 +63,5 @@ fill-spec =
     part-c-start
     part-c-end
     mark-in-requires
-    same-length
-    returns)
+    same-length-2
+    returns-2)
