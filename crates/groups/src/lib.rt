@@ -4,20 +4,20 @@ ghost use lib.ListN.{length};
 ghost use Rattle.laws.specs.Front.{atFrontIfRoom};
 ghost use Rattle.groups.specs.Groups.{groups, numberAt, writing};
 
-// What reading a number finds.
+/// What reading a number finds.
 pub enum Reading {
-    // The number, and the place just past its last byte.
+    /// The number, and the place just past its last byte.
     Number { value: u64, next: usize },
-    // No number: the bytes end inside it or before it, or it is longer than shortest, or over 64 bits.
-    // The place is that of its first byte.
+    /// No number: the bytes end inside it or before it, or it is longer than shortest, or over 64 bits.
+    /// The place is that of its first byte.
     Fault { at: usize },
 }
 
-// What writing a number comes to.
+/// What writing a number comes to.
 pub enum Writing {
-    // So many bytes at the front of the room were taken.
+    /// So many bytes at the front of the room were taken.
     Bytes(usize),
-    // The room is too short, and is as it came.
+    /// The room is too short, and is as it came.
     Short,
 }
 
@@ -27,12 +27,18 @@ fn wide(b: u8) -> u64
     b as u64
 }
 
-// Reads the number that stands at the place `at` of the bytes `s`.
-//
-// Gives `Number` with its value and the place past it, or `Fault` with the place of its first byte, `at`, where no
-// number in shortest form and of at most 64 bits stands there. A place past the end is a fault too.
-//
-// `read_number(&[128, 1, 7], 0)` is `Number { value: 128, next: 2 }`; `read_number(&[128, 0], 0)` is `Fault { at: 0 }`.
+/// Reads the number that stands at the place `at` of the bytes `s`.
+///
+/// Gives `Number` with its value and the place past it.
+///
+/// # Refusal
+///
+/// `Fault` with the place of the number's first byte, `at`, where no number in shortest form and of at most 64 bits
+/// stands there. A place past the end is a fault too.
+///
+/// # Example
+///
+/// `read_number(&[128, 1, 7], 0)` is `Number { value: 128, next: 2 }`; `read_number(&[128, 0], 0)` is `Fault { at: 0 }`.
 pub fn read_number(s: &[u8], at: usize) -> Reading
     ensures { λ r. ⌜ r ≡ numberAt (now (s .entry)) at ⌝ }
 {
@@ -87,12 +93,17 @@ fn count_groups(x: u64) -> usize
     n
 }
 
-// Writes the number `x` at the front of the room `out`.
-//
-// Gives `Bytes` with the count of bytes taken; what lies past them is untouched. Gives `Short`, and writes nothing,
-// where the room is shorter than the number.
-//
-// `write_number(out, 128)` writes `80 01` and gives `Bytes(2)`; into a room of one byte it gives `Short`.
+/// Writes the number `x` at the front of the room `out`.
+///
+/// Gives `Bytes` with the count of bytes taken; what lies past them is untouched.
+///
+/// # Refusal
+///
+/// `Short` where the room is shorter than the number; nothing is written then.
+///
+/// # Example
+///
+/// `write_number(out, 128)` writes `80 01` and gives `Bytes(2)`; into a room of one byte it gives `Short`.
 pub fn write_number(out: &mut [u8], x: u64) -> Writing
     ensures answer { λ r. ⌜ r ≡ writing (groups x) (now (out .entry)) ⌝ }
     ensures room { λ r. ⌜ now (out .exit) ≡ atFrontIfRoom (groups x) (now (out .entry)) ⌝ }

@@ -6,3 +6,4 @@ mod Marks
 mod Single
 pub mod Accepted
 pub mod Meaning
+mod Examples

@@ -3,14 +3,14 @@ use super::Limits;
 ghost use mathlib.Core.Path.{_≡_};
 ghost use Rattle.rules.specs.Finite.{finite, allFinite, finiteLimits};
 
-// Whether a value is neither a NaN nor an infinity.
+/// Whether a value is neither a NaN nor an infinity.
 pub fn is_finite(v: f64) -> bool
     ensures { λ r. ⌜ r ≡ finite v ⌝ }
 {
     (v < 1.0 / 0.0) & (-1.0 / 0.0 < v)
 }
 
-// Whether all three limits are finite.
+/// Whether all three limits are finite.
 pub fn finite_limits(l: Limits) -> bool
     ensures { λ r. ⌜ r ≡ finiteLimits l ⌝ }
 {
@@ -20,7 +20,7 @@ pub fn finite_limits(l: Limits) -> bool
     (upper & centre) & lower
 }
 
-// Whether all values are finite.
+/// Whether all values are finite.
 pub fn all_finite(values: &[f64]) -> bool
     ensures { λ r. ⌜ r ≡ allFinite (now (values .entry)) ⌝ }
 {

@@ -8,14 +8,14 @@ ghost use lib.ListN.{length};
 ghost use Rattle.rules.specs.Lines.{linesOf};
 ghost use Rattle.rules.specs.Marking.{numbered, answerOf, marksAfter};
 
-// Control limits: the upper limit, the centre line, the lower limit.
+/// Control limits: the upper limit, the centre line, the lower limit.
 pub struct Limits {
     pub ucl: f64,
     pub cl: f64,
     pub lcl: f64,
 }
 
-// The lines that the tests compare with: the limits, and one and two sigma above and below the centre line.
+/// The lines that the tests compare with: the limits, and one and two sigma above and below the centre line.
 pub struct Lines {
     pub ucl: f64,
     pub cl: f64,
@@ -26,22 +26,22 @@ pub struct Lines {
     pub below2: f64,
 }
 
-// What marking answers.
+/// What marking answers.
 pub enum Marked {
-    // The marks stand at the front of the slice (0).
+    /// The marks stand at the front of the slice (0).
     Done,
-    // There are more than 4,096 values (5).
+    /// There are more than 4,096 values (5).
     TooMany,
-    // The set's mask is over 511 (4).
+    /// The set's mask is over 511 (4).
     SetTooLarge,
-    // A limit or a value is not finite (3).
+    /// A limit or a value is not finite (3).
     NotFinite,
-    // The slice is shorter than the series (6).
+    /// The slice is shorter than the series (6).
     TooShort,
 }
 
 impl Marked {
-    // 01's number of the answer.
+    /// 01's number of the answer.
     pub fn number(self) -> u8
         ensures { λ r. ⌜ r ≡ numbered self ⌝ }
     {
@@ -94,14 +94,27 @@ fn answer(values: &[f64], limits: Limits, set: RuleSet, room: usize) -> Marked
     Marked::Done
 }
 
-// Marks every position of a series: test b of the set is set in bit b of `marks[i]` exactly where the window of the
-// test that ends at position i fits and shows the test's pattern.
-//
-// Gives `Done` and fills the front of `marks`, one entry for each value; entries past them are untouched. Refuses, in
-// this order and with `marks` as it came: more than 4,096 values (5), a set over 511 (4), limits that are not all
-// finite (3), values that are not all finite (3), a slice shorter than the series (6).
-//
-// Nine values of 26.0 with the limits 28.0, 25.0, 22.0 and the set nelson get 32 at positions 4, 5 and 6, 160 at 7, 162 at 8.
+/// Marks every position of a series: test b of the set is set in bit b of `marks[i]` exactly where the window of the
+/// test that ends at position i fits and shows the test's pattern.
+///
+/// Gives `Done` and fills the front of `marks`, one entry for each value; entries past them are untouched. Infinite
+/// zone widths and limits that lie the wrong way round are taken as they are.
+///
+/// # Refusals
+///
+/// In this order, with `marks` as it came: more than 4,096 values (5), a set over 511 (4), limits that are not all finite
+/// (3), values that are not all finite (3), a slice shorter than the series (6).
+///
+/// # Example
+///
+/// Nine values of 26.5 under the limits 28.0, 25.0, 22.0 and the set nelson: four of five lie beyond one sigma from
+/// position 4 on (32), eight do at position 7 (160), and nine lie on one side at position 8 (162).
+///
+/// ```
+/// let limits = Limits { ucl: 28.0, cl: 25.0, lcl: 22.0 };
+/// let mut marks = [0u16; 9];
+/// rules::mark(&[26.5; 9], limits, RuleSet::nelson(), &mut marks);   // 0, 0, 0, 0, 32, 32, 32, 160, 162
+/// ```
 pub fn mark(values: &[f64], limits: Limits, set: RuleSet, marks: &mut [u16]) -> Marked
     ensures answer { λ r. ⌜ numbered r ≡ answerOf limits (set .mask) (now (values .entry)) (length (now (marks .entry))) ⌝ }
     ensures marks { λ r. ⌜ now (marks .exit) ≡ marksAfter limits (set .mask) (now (values .entry)) (now (marks .entry)) ⌝ }

@@ -23,7 +23,7 @@ add-loop : tie.Need-add-loop Inv-loop μ-loop
 add-loop c = omega (arith, tabling-length (marksRead (c .before .before .before .args .set) (c .before .before .before .args .c .now)) (length (c .before .before .before .args .c .now) - 14) (c .before .before .before .args .out .now) (c .loop .out) (c .loop .i) (c .loop .inv), c .loop .inv .within)
 
 standing-at-requires : tie.Need-standing-at-requires Inv-loop μ-loop
-standing-at-requires c κs = c .loop-test .taken
+standing-at-requires c κs = omega arith
 
 mul-out : tie.Need-mul-out Inv-loop μ-loop
 mul-out c = omega (arith, tabling-room (marksRead (c .before .before .before .before .before .args .set) (c .before .before .before .before .before .args .c .now)) (length (c .before .before .before .before .before .args .c .now) - 14) (c .before .before .before .before .before .args .out .now) (c .before .before .loop .out) (c .before .before .loop .i) (c .before .before .loop .inv) (omega arith))
