@@ -1,10 +1,10 @@
 -- What marking does not refuse: few enough values, a set, finite limits and values, room. Assumes nothing.
-use mathlib.Core.Path.{_≡_}
-use mathlib.Core.Bool.{true, false, not}
+use mathlib.Core.Path.{_≡_, refl}
+use mathlib.Core.Bool.{Bool, true, false, not, _&&_, cond}
 use mathlib.Core.List.{List, [], _∷_}
 use Prim.Native.Nat.{ℕ, _≤_}
 use native.Mathlib.Omega.{arith}
-use borrow.Author.Tests.{ltb-false, not-false}
+use borrow.Author.Tests.{le-ltb, ltb-false, not-false}
 use lib.Dec.{ltb}
 use lib.Ieee.{Float}
 use lib.ListN.{length}
@@ -36,3 +36,15 @@ was-accepted limits set values room e =
       finite = not-false (allFinite values) (d .0);
       wide = ltb-false room (length values) (f .0);
     }
+
+-- Where the values are few enough, the set is one and there is room, it is the limits and the values alone that decide.
+pub only-finite : (limits : Limits) (set : ℕ) (values : List Float) (room : ℕ) → length values ≤ 4096 → set ≤ 511 → length values ≤ room
+    → answerOf limits set values room ≡ cond (finiteLimits limits && allFinite values) 0 3
+unfolding answerOf firstOf
+only-finite limits set values room few small wide =
+    simp (le-ltb 4096 (length values) few, le-ltb 511 set small, le-ltb room (length values) wide) (by (finiteLimits limits) (allFinite values))
+  where
+    by : (a b : Bool) → _≡_ {A = ℕ} (cond (not a) 3 (cond (not b) 3 0)) (cond (a && b) 0 3)
+    by true true = refl
+    by true false = refl
+    by false b = refl

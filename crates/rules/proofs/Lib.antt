@@ -6,4 +6,6 @@ mod Marks
 mod Single
 pub mod Accepted
 pub mod Meaning
+mod Behind
+mod Spans
 mod Examples

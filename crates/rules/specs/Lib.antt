@@ -4,3 +4,4 @@ pub mod Tests
 pub mod Finite
 pub mod Marking
 pub mod Codes
+pub mod Evidence

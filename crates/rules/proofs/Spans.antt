@@ -1,0 +1,98 @@
+-- The evidence as a part of its series: from where the window starts to where it ends, or nothing. Assumes nothing.
+use mathlib.Core.Path.{_≡_, refl, sym, ap, ap₂, _∙_}
+use mathlib.Core.Bool.{Bool, true, false, _&&_, cond, false≢true}
+use mathlib.Core.List.{List}
+use Prim.Native.Nat.{ℕ, suc, _+_, _-_, _≤_, _<_}
+use native.Mathlib.Omega.{arith}
+use borrow.Author.Tests.{leb-true, lt-leb}
+use lib.Dec.{leb, ltb, eqb}
+use lib.Ieee.{Float}
+use lib.ListN.{length, take}
+use Rattle.sets.specs.Sets.{tests}
+use Rattle.rules.specs.declared.Limits.{Limits}
+use Rattle.rules.specs.declared.evidence.Span.{Span}
+use Rattle.rules.specs.Lines.{linesOf}
+use Rattle.rules.specs.Tests.{window, shows}
+use Rattle.rules.specs.Finite.{allFinite, finiteLimits}
+use Rattle.rules.specs.Marking.{newestFirst, stands}
+use Rattle.rules.specs.Evidence.{Part, nothing, testOf, partTo, shownAt, evidenceOf, spanAt}
+use Rattle.rules.proofs.Behind.{length-newest}
+
+abbrev pub spanned : Bool → Span → Part
+spanned second s = record { second = second; start = s .start; long = s .end - s .start }
+
+last-yes : (a b c d e : Bool) → (a && (b && (c && (d && e)))) ≡ true → e ≡ true
+last-yes true true true true e h = h
+last-yes true true true false e h = absurd (false≢true h)
+last-yes true true false d e h = absurd (false≢true h)
+last-yes true false c d e h = absurd (false≢true h)
+last-yes false b c d e h = absurd (false≢true h)
+
+first-yes : (a b : Bool) → (a && b) ≡ true → a ≡ true
+first-yes true b h = refl
+first-yes false b h = h
+
+module _ (series : List Float) (limits : Limits) (at bit : ℕ) where
+  -- what is shown fits
+  shown-fits : shownAt series limits at bit ≡ true → window (testOf bit) ≤ suc at
+  unfolding shownAt stands
+  shown-fits h =
+      let past = newestFirst series (suc at) in
+      let w = window (testOf bit) in
+      let fits : leb w (length past) ≡ true =
+      first-yes (leb w (length past)) (shows (testOf bit) (linesOf limits) (take w past))
+      (last-yes (ltb at (length series)) (ltb bit (length tests)) (finiteLimits limits) (allFinite (partTo w at series)) _ h) in
+      omega (arith, leb-true w (length past) fits, length-newest series (suc at))
+
+  -- the part, by whether the pattern is shown
+  by-shown : (second : Bool) → cond (shownAt series limits at bit) (record { second = second; start = suc at - window (testOf bit); long = window (testOf bit) }) (record { second = second; start = 0; long = 0 })
+      ≡ spanned second (spanAt series limits at bit)
+  unfolding spanAt
+  by-shown second = go (shownAt series limits at bit) shown-fits
+    where
+      go : (b : Bool) → (b ≡ true → window (testOf bit) ≤ suc at)
+          → cond b (record { second = second; start = suc at - window (testOf bit); long = window (testOf bit) }) (record { second = second; start = 0; long = 0 })
+          ≡ spanned second (cond b (record { start = suc at - window (testOf bit); end = suc at }) (record { start = 0; end = 0 }))
+      go true h =
+          let fits = h refl in
+          let long : window (testOf bit) ≡ suc at - (suc at - window (testOf bit)) = omega arith in
+          ap (λ (n : ℕ). record { second = second; start = suc at - window (testOf bit); long = n }) long
+      go false h = refl
+
+  end-shown : shownAt series limits at bit ≡ true → spanAt series limits at bit .end ≡ suc at
+  unfolding spanAt
+  end-shown e = simp e
+
+  end-none : shownAt series limits at bit ≡ false → spanAt series limits at bit .end ≡ 0
+  unfolding spanAt
+  end-none e = simp e
+
+module _ (main dispersion : List Float) (number : ℕ) (limits : Limits) (at bit : ℕ) where
+  abbrev found : Part
+  found = record { second = true; start = suc at - window (testOf bit); long = window (testOf bit) }
+
+  pub main-part : number ≡ 0 → evidenceOf main dispersion number limits at bit ≡ spanned false (spanAt main limits at bit)
+  unfolding evidenceOf
+  main-part e = rw e (by-shown main limits at bit false)
+
+  pub second-part : number ≡ 1 → (spanAt dispersion limits at bit .end ≡ 0 → ⊥)
+      → evidenceOf main dispersion number limits at bit ≡ spanned true (spanAt dispersion limits at bit)
+  unfolding evidenceOf
+  second-part e h = rw e (go (shownAt dispersion limits at bit) refl)
+    where
+      go : (b : Bool) → shownAt dispersion limits at bit ≡ b → cond b found nothing ≡ spanned true (spanAt dispersion limits at bit)
+      go true s =
+          ap (λ (b : Bool). cond b found (record { second = true; start = 0; long = 0 })) (sym s) ∙ by-shown dispersion limits at bit true
+      go false s = absurd (h (end-none dispersion limits at bit s))
+
+  pub second-none : number ≡ 1 → spanAt dispersion limits at bit .end ≡ 0 → evidenceOf main dispersion number limits at bit ≡ nothing
+  unfolding evidenceOf
+  second-none e h = rw e (go (shownAt dispersion limits at bit) refl)
+    where
+      go : (b : Bool) → shownAt dispersion limits at bit ≡ b → cond b found nothing ≡ nothing
+      go true s = absurd (omega (arith, end-shown dispersion limits at bit s))
+      go false s = refl
+
+  pub no-series : 2 ≤ number → evidenceOf main dispersion number limits at bit ≡ nothing
+  unfolding evidenceOf
+  no-series h = simp (lt-leb number 1 h)

@@ -1,0 +1,17 @@
+-- `rules::evidence::window_of` meets its contract: the table is the third column of 01's. Assumes nothing.
+use Rattle.rules.proofs.Behind.{window-at}
+use borrow.Author.Needs.{needs}
+use Rattle.rules.proofs.evidence.window_of.Statement.{statement}
+use Rattle.rules.proofs.evidence.window_of.Tie as tie
+
+mul-result : tie.Need-mul-result
+mul-result c = search needs
+
+array-read-result : tie.Need-array-read-result
+array-read-result c = search needs
+
+returns : tie.Need-returns
+returns c = window-at (c .args .bit) (c .pre)
+
+pub window-of-spec : {M : Type 1} → statement M
+window-of-spec = tie.close (tie.spec mul-result array-read-result returns)

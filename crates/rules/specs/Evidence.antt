@@ -1,0 +1,65 @@
+-- The window behind a mark (01, 'The mark sheet', Evidence). Definitions only.
+use mathlib.Core.Path.{_≡_}
+use mathlib.Core.Bool.{Bool, true, false, _&&_, cond}
+use mathlib.Core.List.{List}
+use Prim.Native.Nat.{ℕ, suc, _+_, _*_, _-_}
+use denote.Ref.{RefT}
+use lib.Dec.{ltb, leb, eqb}
+use lib.Ieee.{Float}
+use lib.ListN.{length, take, drop, getD}
+use Rattle.sets.specs.declared.Test.{Test}
+use Rattle.sets.specs.declared.Test.the-variants.{BeyondLimits}
+use Rattle.sets.specs.Sets.{tests}
+use Rattle.rules.specs.declared.Limits.{Limits}
+use Rattle.rules.specs.declared.evidence.Span.{Span}
+use Rattle.rules.specs.Lines.{linesOf}
+use Rattle.rules.specs.Tests.{window}
+use Rattle.rules.specs.Finite.{allFinite, finiteLimits}
+use Rattle.rules.specs.Marking.{newestFirst, stands}
+
+-- a part of one of two series: of which, where it starts, how long it is
+pub record Part : Type 0 where
+  pub second : Bool
+  pub start : ℕ
+  pub long : ℕ
+
+-- "the empty part at the front of series 0"
+abbrev pub nothing : Part
+nothing = record { second = false; start = 0; long = 0 }
+
+-- the test of a bit number
+unfoldable pub testOf : ℕ → Test
+testOf bit = getD tests bit BeyondLimits
+
+-- the n values that end at a position, as a part of the series
+abbrev pub partTo : ℕ → ℕ → List Float → List Float
+partTo n at series = take n (drop (suc at - n) series)
+
+-- The position and the test are in range, the limits and the window's values are finite, the window fits and shows the pattern.
+unfoldable pub shownAt : List Float → Limits → ℕ → ℕ → Bool
+shownAt series limits at bit =
+    ltb at (length series)
+    && (ltb bit (length tests)
+    && (finiteLimits limits
+    && (allFinite (partTo (window (testOf bit)) at series)
+    && stands (linesOf limits) (newestFirst series (suc at)) (testOf bit))))
+
+-- the window that ends at the position, of the series of that number, 0 or 1
+unfoldable pub evidenceOf : List Float → List Float → ℕ → Limits → ℕ → ℕ → Part
+evidenceOf main dispersion number limits at bit =
+    cond (leb number 1 && shownAt (cond (eqb number 0) main dispersion) limits at bit)
+    (record { second = eqb number 1; start = suc at - window (testOf bit); long = window (testOf bit) })
+    nothing
+
+-- where it starts and ends in its series, or 0 and 0 where there is none: an inner step of the code
+unfoldable pub spanAt : List Float → Limits → ℕ → ℕ → Span
+spanAt series limits at bit =
+    cond (shownAt series limits at bit)
+    (record { start = suc at - window (testOf bit); end = suc at })
+    (record { start = 0; end = 0 })
+
+-- r is that part: in the memory of its series, from its start on (an f64 takes eight bytes), with its values
+pub record IsPart (main dispersion r : RefT (List Float)) (p : Part) : Type 0 where
+  pub block : r .ptr .0 ≡ cond (p .second) (dispersion .ptr .0) (main .ptr .0)
+  pub place : r .ptr .1 ≡ cond (p .second) (dispersion .ptr .1) (main .ptr .1) + p .start * 8
+  pub values : r .now ≡ take (p .long) (drop (p .start) (cond (p .second) (dispersion .now) (main .now)))

@@ -1,0 +1,110 @@
+// The window behind a mark.
+use super::Limits;
+use super::mark;
+use sets::RuleSet;
+ghost use mathlib.Core.Path.{_≡_};
+ghost use mathlib.Core.Bool.{_&&_};
+ghost use Prim.Native.Nat.{_≤_, _<_};
+ghost use lib.ListN.{length};
+ghost use Rattle.rules.specs.Lines.{linesOf};
+ghost use Rattle.rules.specs.Tests.{window, shows};
+ghost use Rattle.rules.specs.Finite.{allFinite, finiteLimits};
+ghost use Rattle.rules.specs.Marking.{newestFirst};
+ghost use Rattle.rules.specs.Evidence.{testOf, spanAt, evidenceOf, IsPart};
+
+// The third column of 01's table.
+const WINDOWS: [usize; 9] = [1, 9, 6, 14, 3, 5, 15, 8, 8];
+
+// The window length of a test, by its bit number.
+fn window_of(bit: u64) -> usize
+    requires { ⌜ bit < 9 ⌝ }
+    ensures { λ r. ⌜ r ≡ window (testOf bit) ⌝ }
+{
+    WINDOWS[bit as usize]
+}
+
+// Whether a window of a test's length shows its pattern, its values and the limits being finite: the window is marked
+// as a series of its own, by a set with this test alone.
+fn shows_pattern(part: &[f64], limits: Limits, bit: u64) -> bool
+    requires { ⌜ (length (now part) ≡ window (testOf bit)) × (bit < 9) ⌝ }
+    ensures { λ r. ⌜ r ≡ (finiteLimits limits && (allFinite (now (part .entry)) && shows (testOf bit) (linesOf limits) (newestFirst (now (part .entry)) (length (now (part .entry)))))) ⌝ }
+{
+    let mut marks = [0u16; 15];
+    let set = RuleSet { mask: 1 << bit };
+    let answered = mark(part, limits, set, &mut marks);
+    if answered.number() != 0 {
+        return false;
+    }
+    marks[part.len() - 1] != 0
+}
+
+// Where a window starts and ends in its series.
+struct Span {
+    start: usize,
+    end: usize,
+}
+
+// The window that ends at a position, where it shows the pattern of a test, and else 0 and 0.
+fn span_at(series: &[f64], limits: Limits, at: usize, bit: u64) -> Span
+    ensures { λ r. ⌜ (r ≡ spanAt (now (series .entry)) limits at bit) × (r .start ≤ r .end) × (r .end ≤ length (now (series .entry))) ⌝ }
+{
+    if series.len() <= at {
+        return Span { start: 0, end: 0 };
+    }
+    if 9 <= bit {
+        return Span { start: 0, end: 0 };
+    }
+    let n = window_of(bit);
+    let end = at + 1;
+    if end < n {
+        return Span { start: 0, end: 0 };
+    }
+    let start = end - n;
+    if shows_pattern(&series[start..end], limits, bit) {
+        return Span { start, end };
+    }
+    Span { start: 0, end: 0 }
+}
+
+/// The window behind a mark: the part of the named series that ends at the position `at` and shows the pattern of the
+/// test with the bit number `bit`.
+///
+/// `series` is 0 for `main` and 1 for `dispersion`, and `limits` are those of that series. The part is one of the lent
+/// series itself, not a copy.
+///
+/// # Refusals
+///
+/// The empty part at the front of `main` where the series' number, the position or the bit number is out of range, the
+/// window does not fit, its values or the limits are not all finite, or it does not show the pattern.
+///
+/// # Example
+///
+/// Under the limits 28.0, 25.0, 22.0 the evidence of bit 4 (two of three beyond two sigma) at position 2 of 27.5, 25.0,
+/// 27.5 is all three values; at position 1 it is empty, since the window does not fit.
+pub fn evidence<'a>(
+    main: &'a [f64],
+    dispersion: &'a [f64],
+    series: u64,
+    limits: Limits,
+    at: usize,
+    bit: u64,
+) -> &'a [f64]
+    ensures { λ r. ⌜ IsPart (main .entry) (dispersion .entry) r (evidenceOf (now (main .entry)) (now (dispersion .entry)) series limits at bit) ⌝ }
+{
+    if series == 0 {
+        let span = span_at(main, limits, at, bit);
+        let start = span.start;
+        let end = span.end;
+        return &main[start..end];
+    }
+    if series == 1 {
+        let span = span_at(dispersion, limits, at, bit);
+        let start = span.start;
+        let end = span.end;
+        if end == 0 {
+            return &main[0..0];
+        }
+        return &dispersion[start..end];
+    }
+    &main[0..0]
+}
