@@ -28,7 +28,7 @@ use Rattle.rules.specs.Tests.{window, shows}
 use Rattle.rules.specs.Finite.{allFinite, finiteLimits}
 use Rattle.rules.specs.Marking.{newestFirst, stands, marksAt, marksOf, answerOf, marksAfter}
 use Rattle.rules.specs.declared.evidence.Span.{Span}
-use Rattle.rules.specs.Evidence.{testOf, partTo, shownAt, spanAt}
+use Rattle.rules.specs.Evidence.{testOf, partTo, shownAt, showsAlone, spanAt}
 use Rattle.rules.proofs.Meaning.{length-marks, marks-at}
 
 -- ---- the test of a bit
@@ -185,11 +185,7 @@ module _ (series : List Float) (limits : Limits) (at bit : ℕ) where
 
   -- the same of the part as the code takes it, where n is the window's length
   pub shown-by-part : (n : ℕ) → at < length series → bit < 9 → n ≡ window (testOf bit) → n ≤ at + 1
-      → (finiteLimits limits
-      && (allFinite (take (at + 1 - (at + 1 - n)) (drop (at + 1 - n) series))
-      && shows (testOf bit) (linesOf limits)
-      (newestFirst (take (at + 1 - (at + 1 - n)) (drop (at + 1 - n) series)) (length (take (at + 1 - (at + 1 - n)) (drop (at + 1 - n) series))))))
-      ≡ shownAt series limits at bit
+      → showsAlone limits bit (take (at + 1 - (at + 1 - n)) (drop (at + 1 - n) series)) ≡ shownAt series limits at bit
   shown-by-part n h k e w =
       let t = testOf bit in
       let long : at + 1 - (at + 1 - n) ≡ window t = omega arith in
@@ -198,7 +194,7 @@ module _ (series : List Float) (limits : Limits) (at bit : ℕ) where
       ap₂ (λ (m s : ℕ). take m (drop s series)) long start in
       let whole : length (partTo (window t) at series) ≡ window t =
       length-take-le (window t) (drop (suc at - window t) series) (omega (arith, length-drop (suc at - window t) series)) in
-      ap (λ (p : List Float). finiteLimits limits && (allFinite p && shows t (linesOf limits) (newestFirst p (length p)))) part
+      ap (showsAlone limits bit) part
       ∙ ap (λ (m : ℕ). finiteLimits limits
       && (allFinite (partTo (window t) at series) && shows t (linesOf limits) (newestFirst (partTo (window t) at series) m))) whole
       ∙ sym (shown-by-window h k (omega arith))

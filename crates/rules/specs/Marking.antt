@@ -35,8 +35,11 @@ unfoldable pub marksAt : Lines → ℕ → List Float → ℕ → ℕ
 marksAt l set values i = setOf (λ t. has set t && stands l (newestFirst values (suc i)) t)
 
 -- those of every position of the series
+abbrev pub marksBy : Lines → ℕ → List Float → List ℕ
+marksBy l set values = tabulate (marksAt l set values) (length values)
+
 unfoldable pub marksOf : Limits → ℕ → List Float → List ℕ
-marksOf limits set values = tabulate (marksAt (linesOf limits) set values) (length values)
+marksOf limits set values = marksBy (linesOf limits) set values
 
 -- ---- what marking answers
 

@@ -8,7 +8,7 @@ ghost use lib.ListN.{length, replicate};
 ghost use Rattle.laws.specs.Bits.{hasBit, fromBits};
 ghost use Rattle.laws.specs.Lists.{tabulate};
 ghost use Rattle.laws.specs.Front.{atFront};
-ghost use Rattle.rules.specs.Marking.{marksAt};
+ghost use Rattle.rules.specs.Marking.{marksBy};
 ghost use Rattle.rules.specs.Codes.{codeOf, codesOf, narrowed, readOff, lastOf, marksRead, Room};
 
 // How the value v, which comes after u, lies to the lines and to u.
@@ -173,7 +173,7 @@ fn read_marks(set: u16, c: &[u16], out: &mut [u16])
 // The same from the values; `wide` and `c` are room for the codes.
 fn mark_in(l: Lines, set: u16, values: &[f64], wide: &mut [u64], c: &mut [u16], out: &mut [u16])
     requires { ⌜ Room (length (now values)) (now wide) (now c) × (length (now values) ≤ length (now out)) ⌝ }
-    ensures { λ _. ⌜ now (out .exit) ≡ atFront (tabulate (marksAt l set (now (values .entry))) (length (now (values .entry)))) (now (out .entry)) ⌝ }
+    ensures { λ _. ⌜ now (out .exit) ≡ atFront (marksBy l set (now (values .entry))) (now (out .entry)) ⌝ }
 {
     codes(l, values, wide);
     narrow(wide, &mut c[14..]);
@@ -183,7 +183,7 @@ fn mark_in(l: Lines, set: u16, values: &[f64], wide: &mut [u64], c: &mut [u16], 
 // The same for a set that has no test but the first, whose windows are single values: no codes are needed.
 fn mark_beyond(l: Lines, set: u16, values: &[f64], out: &mut [u16])
     requires { ⌜ (set < 2) × (length (now values) ≤ length (now out)) ⌝ }
-    ensures { λ _. ⌜ now (out .exit) ≡ atFront (tabulate (marksAt l set (now (values .entry))) (length (now (values .entry)))) (now (out .entry)) ⌝ }
+    ensures { λ _. ⌜ now (out .exit) ≡ atFront (marksBy l set (now (values .entry))) (now (out .entry)) ⌝ }
 {
     let mut i = 0;
     while i < values.len() {
@@ -196,7 +196,7 @@ fn mark_beyond(l: Lines, set: u16, values: &[f64], out: &mut [u16])
 // The marks of every position at the front of `out`.
 pub fn fill(l: Lines, set: u16, values: &[f64], out: &mut [u16])
     requires { ⌜ (length (now values) ≤ 4096) × (length (now values) ≤ length (now out)) ⌝ }
-    ensures { λ _. ⌜ now (out .exit) ≡ atFront (tabulate (marksAt l set (now (values .entry))) (length (now (values .entry)))) (now (out .entry)) ⌝ }
+    ensures { λ _. ⌜ now (out .exit) ≡ atFront (marksBy l set (now (values .entry))) (now (out .entry)) ⌝ }
 {
     if set < 2 {
         mark_beyond(l, set, values, out);

@@ -3,14 +3,10 @@ use super::Limits;
 use super::mark;
 use sets::RuleSet;
 ghost use mathlib.Core.Path.{_≡_};
-ghost use mathlib.Core.Bool.{_&&_};
 ghost use Prim.Native.Nat.{_≤_, _<_};
 ghost use lib.ListN.{length};
-ghost use Rattle.rules.specs.Lines.{linesOf};
-ghost use Rattle.rules.specs.Tests.{window, shows};
-ghost use Rattle.rules.specs.Finite.{allFinite, finiteLimits};
-ghost use Rattle.rules.specs.Marking.{newestFirst};
-ghost use Rattle.rules.specs.Evidence.{testOf, spanAt, evidenceOf, IsPart};
+ghost use Rattle.rules.specs.Tests.{window};
+ghost use Rattle.rules.specs.Evidence.{testOf, evidenceOf, IsPart, showsAlone, spanAt};
 
 // The third column of 01's table.
 const WINDOWS: [usize; 9] = [1, 9, 6, 14, 3, 5, 15, 8, 8];
@@ -27,7 +23,7 @@ fn window_of(bit: u64) -> usize
 // as a series of its own, by a set with this test alone.
 fn shows_pattern(part: &[f64], limits: Limits, bit: u64) -> bool
     requires { ⌜ (length (now part) ≡ window (testOf bit)) × (bit < 9) ⌝ }
-    ensures { λ r. ⌜ r ≡ (finiteLimits limits && (allFinite (now (part .entry)) && shows (testOf bit) (linesOf limits) (newestFirst (now (part .entry)) (length (now (part .entry)))))) ⌝ }
+    ensures { λ r. ⌜ r ≡ showsAlone limits bit (now (part .entry)) ⌝ }
 {
     let mut marks = [0u16; 15];
     let set = RuleSet { mask: 1 << bit };
