@@ -6,6 +6,7 @@ mod Marks
 mod Single
 pub mod Accepted
 pub mod Meaning
+pub mod Answers
 mod Behind
 mod Spans
 mod Examples

@@ -1,0 +1,8 @@
+-- The root. Assumes nothing.
+use mathlib.Core.Path.{sym, _∙_}
+use Rattle.root.proofs.root.Reads as root
+use Rattle.root.proofs.root.Kinds as root-kinds
+use Rattle.promises.proofs.Coincide.{Coincide}
+
+root-one : Coincide 0 root-kinds.ps root-kinds.r root.Post (λ κs x s. x)
+root-one κs a x y s t p q = p .1 ∙ sym (q .1)

@@ -1,0 +1,1 @@
+// That each promise fixes its result: laws in proofs/, no code.
