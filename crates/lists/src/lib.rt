@@ -38,8 +38,10 @@ pub enum Why {
     Range { value: u64, low: u16, high: u16 },
     /// The number is an f64's bits, and the f64 is not finite.
     NotFinite,
-    /// More bytes follow than ought to.
+    /// Bytes follow the end.
     LeftOver,
+    /// There are more bytes than a list may have.
+    TooLong,
 }
 
 /// Where and why bytes are no list. The place is that of the first byte of the number concerned.
@@ -215,7 +217,7 @@ pub fn opening(list: &[u8]) -> Number {
         return Number::Fault(Fault {
             at: MOST_BYTES,
             item: Item::End,
-            why: Why::LeftOver,
+            why: Why::TooLong,
         });
     }
     match read_small(list, 0, Item::Format, 1, 1) {

@@ -1,6 +1,7 @@
 // What a program that replays a list says of it, on standard output.
 use crate::Fault;
 use crate::Item;
+use crate::MOST_BYTES;
 use crate::Why;
 use libc::STDOUT_FILENO;
 
@@ -50,6 +51,7 @@ fn put_why(why: Why) {
         Why::Range { value, low, high } => put_range(value, low, high),
         Why::NotFinite => put(b" is not finite"),
         Why::LeftOver => put(b": bytes are left over"),
+        Why::TooLong => say(b": a list has at most ", MOST_BYTES as u64, b" bytes"),
     }
 }
 

@@ -21,6 +21,9 @@ const MARKS_CASE: u16 = 1;
 // The most values that a case has.
 const MOST: u16 = 4096;
 
+// How many entries more than marks a slice for them has.
+const SPARE: usize = 4;
+
 // What a slice for marks holds before they are made. No marks are this, and past the last of them it has to stay.
 const UNTOUCHED: u16 = 0xffff;
 
@@ -77,8 +80,8 @@ fn judge(values: &[f64], limits: Limits, set: RuleSet, marks: &mut [u16], right:
     compare(marks, right, values.len())
 }
 
-// Replays a case from its values on, which stand at the place `at`. The slices have room for the values, for their marks
-// and for the right ones; these two have a few entries more.
+// Replays a case from its values on, which stand at the place `at`. The slices are room for the values, for our marks and
+// for the right ones; the last two have `SPARE` entries more.
 fn replay_values(
     list: &[u8],
     at: usize,
@@ -111,7 +114,7 @@ fn replay_count(list: &[u8], at: usize, limits: Limits, set: RuleSet) -> Replaye
         Small::Fault(fault) => return Replayed::Fault(fault),
     };
     let n = count.value as usize;
-    let end = n + 4;
+    let end = n + SPARE;
     let mut values = [0.0f64; 4096];
     let mut marks = [UNTOUCHED; 4100];
     let mut right = [UNTOUCHED; 4100];
