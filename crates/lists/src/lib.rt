@@ -6,7 +6,6 @@ use groups::Reading;
 pub use words::no_list;
 pub use words::say;
 pub use words::totals;
-ghost use Prim.Native.Nat.{_≤_};
 ghost use Rattle.lists.specs.Taken.{AtMost};
 
 /// Bytes of the longest list.
