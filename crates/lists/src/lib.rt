@@ -1,0 +1,244 @@
+// Lists of cases with their right answers, in the form of oracle/FORMAT.md: reading what they hold, and saying why
+// bytes are no list.
+mod words;
+
+use groups::Reading;
+pub use words::no_list;
+pub use words::say;
+pub use words::totals;
+ghost use Rattle.lists.specs.Taken.{AtMost};
+
+/// Bytes of the longest list.
+pub const MOST_BYTES: usize = 400_000;
+
+/// The largest rule set, and the largest marks of a point.
+pub const ALL_TESTS: u16 = 511;
+
+/// What a number of a list stands for.
+pub enum Item {
+    Format,
+    Cases,
+    Tag,
+    Set,
+    Limit,
+    Count,
+    Value,
+    Marks,
+    End,
+}
+
+/// Why bytes are no list.
+pub enum Why {
+    /// The bytes end at the number or inside it.
+    Cut,
+    /// The number is longer than its shortest form or over 64 bits.
+    Form,
+    /// The number is `value` and ought to be `low` to `high`.
+    Range { value: u64, low: u16, high: u16 },
+    /// The number is an f64's bits, and the f64 is not finite.
+    NotFinite,
+    /// Bytes follow the end.
+    LeftOver,
+    /// There are more bytes than a list may have.
+    TooLong,
+}
+
+/// Where and why bytes are no list. The place is that of the first byte of the number concerned.
+pub struct Fault {
+    pub at: usize,
+    pub item: Item,
+    pub why: Why,
+}
+
+/// A number and the place just past it.
+pub struct Wide {
+    pub value: u64,
+    pub next: usize,
+}
+
+/// A number below 2^16 and the place just past it.
+pub struct Narrow {
+    pub value: u16,
+    pub next: usize,
+}
+
+/// A finite f64 and the place just past it.
+pub struct Real {
+    pub value: f64,
+    pub next: usize,
+}
+
+/// What reading a number finds.
+pub enum Number {
+    Read(Wide),
+    Fault(Fault),
+}
+
+/// What reading a number that has to lie within bounds finds.
+pub enum Small {
+    Read(Narrow),
+    Fault(Fault),
+}
+
+/// What reading an f64 finds.
+pub enum Float {
+    Read(Real),
+    Fault(Fault),
+}
+
+/// What reading several numbers finds: the place just past them, or the fault of the first that has one.
+pub enum Passed {
+    Next(usize),
+    Fault(Fault),
+}
+
+// Whether the bytes end before a number that begins at the place does.
+fn is_cut(list: &[u8], at: usize) -> bool {
+    let mut i = at;
+    while i < list.len() {
+        if list[i] < 128 {
+            return false;
+        }
+        i += 1;
+    }
+    true
+}
+
+// Why no number stands at the place.
+fn fault_of(list: &[u8], at: usize, item: Item) -> Fault {
+    if is_cut(list, at) {
+        return Fault {
+            at,
+            item,
+            why: Why::Cut,
+        };
+    }
+    Fault {
+        at,
+        item,
+        why: Why::Form,
+    }
+}
+
+/// Reads the number at the place `at`.
+pub fn read_number(list: &[u8], at: usize, item: Item) -> Number {
+    match groups::read_number(list, at) {
+        Reading::Number { value, next } => Number::Read(Wide { value, next }),
+        Reading::Fault { at } => Number::Fault(fault_of(list, at, item)),
+    }
+}
+
+/// Reads the number at the place `at`, which has to be `low` to `high`.
+pub fn read_small(list: &[u8], at: usize, item: Item, low: u16, high: u16) -> Small
+    ensures { λ r. ⌜ AtMost high r ⌝ }
+{
+    match read_number(list, at, item) {
+        Number::Read(read) => {
+            let value = read.value;
+            let range = Fault {
+                at,
+                item,
+                why: Why::Range { value, low, high },
+            };
+            if value < low as u64 {
+                return Small::Fault(range);
+            }
+            if value > high as u64 {
+                return Small::Fault(range);
+            }
+            Small::Read(Narrow {
+                value: value as u16,
+                next: read.next,
+            })
+        }
+        Number::Fault(fault) => Small::Fault(fault),
+    }
+}
+
+/// Reads the f64 at the place `at`, which has to be finite.
+pub fn read_float(list: &[u8], at: usize, item: Item) -> Float {
+    match read_number(list, at, item) {
+        Number::Read(read) => {
+            let bits = read.value;
+            if bits & 0x7fff_ffff_ffff_ffff >= 0x7ff0_0000_0000_0000 {
+                return Float::Fault(Fault {
+                    at,
+                    item,
+                    why: Why::NotFinite,
+                });
+            }
+            Float::Read(Real {
+                value: f64::from_bits(bits),
+                next: read.next,
+            })
+        }
+        Number::Fault(fault) => Float::Fault(fault),
+    }
+}
+
+/// Reads as many f64 as `out` has room for.
+pub fn read_floats(list: &[u8], at: usize, item: Item, out: &mut [f64]) -> Passed {
+    let mut next_at = at;
+    let mut i = 0;
+    while i < out.len() {
+        match read_float(list, next_at, item) {
+            Float::Read(read) => {
+                out[i] = read.value;
+                next_at = read.next;
+            }
+            Float::Fault(fault) => return Passed::Fault(fault),
+        }
+        i += 1;
+    }
+    Passed::Next(next_at)
+}
+
+/// Reads the marks of as many points as `out` has room for.
+pub fn read_marks(list: &[u8], at: usize, out: &mut [u16]) -> Passed {
+    let mut next_at = at;
+    let mut i = 0;
+    while i < out.len() {
+        match read_small(list, next_at, Item::Marks, 0, ALL_TESTS) {
+            Small::Read(read) => {
+                out[i] = read.value;
+                next_at = read.next;
+            }
+            Small::Fault(fault) => return Passed::Fault(fault),
+        }
+        i += 1;
+    }
+    Passed::Next(next_at)
+}
+
+/// Reads what stands before the first case, and gives the number of cases.
+pub fn opening(list: &[u8]) -> Number {
+    if MOST_BYTES < list.len() {
+        return Number::Fault(Fault {
+            at: MOST_BYTES,
+            item: Item::End,
+            why: Why::TooLong,
+        });
+    }
+    match read_small(list, 0, Item::Format, 1, 1) {
+        Small::Read(format) => read_number(list, format.next, Item::Cases),
+        Small::Fault(fault) => Number::Fault(fault),
+    }
+}
+
+/// Reads the end, which stands where the next tag would and is followed by nothing.
+pub fn closing(list: &[u8], at: usize) -> Passed {
+    match read_small(list, at, Item::End, 0, 0) {
+        Small::Read(end) => {
+            let next = end.next;
+            if next < list.len() {
+                return Passed::Fault(Fault {
+                    at: next,
+                    item: Item::End,
+                    why: Why::LeftOver,
+                });
+            }
+            Passed::Next(next)
+        }
+        Small::Fault(fault) => Passed::Fault(fault),
+    }
+}
