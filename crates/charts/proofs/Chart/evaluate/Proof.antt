@@ -1,0 +1,69 @@
+-- `Chart::evaluate` meets its contract: refused ahead of the arithmetic, or as `evaluate::evaluate` says. Assumes nothing.
+use mathlib.Core.Path.{sym, ap, _∙_}
+use lib.ListN.{length}
+use Rattle.charts.specs.Arith.{plusZero}
+use Rattle.charts.specs.Series.{seriesOf}
+use Rattle.charts.specs.Evaluating.{seriesMarks}
+use Rattle.charts.specs.Steps.{tested}
+use Rattle.charts.proofs.Outcomes.{ahead, answer-passed, answer-refused, slice-refused}
+use borrow.Author.Needs.{needs}
+use Rattle.charts.proofs.Chart.evaluate.Statement.{statement}
+use Rattle.charts.proofs.Chart.evaluate.Tie as tie
+
+check-requires : tie.Need-check-requires
+check-requires c κs = search needs
+
+enum-known-why : tie.Need-enum-known-why
+enum-known-why c = search needs
+
+enum-told : tie.Need-enum-told
+enum-told c = search needs
+
+evaluate-requires : tie.Need-evaluate-requires
+evaluate-requires c κs = sym (c .before .before .before .before .before .before .check .ensures) ∙ ap tested (c .before .before .before .before .enum-told .given .1)
+
+returns : tie.Need-returns
+returns c =
+    let a = c .before .before .before .before .before .before .before .before .before .args in
+    let is = c .before .why .given .1 in
+    let found = c .before .before .before .check .ensures in (
+      answer-refused (a .self) (a .values .now) (length (a .main .now)) (length (a .dispersion .now)) (length (a .main-marks .now)) (length (a .dispersion-marks .now)) is found,
+      (slice-refused (a .self) (a .values .now) (length (a .main .now)) (length (a .dispersion .now)) (length (a .main-marks .now)) (length (a .dispersion-marks .now)) is found plusZero (seriesOf (a .self) 0 (a .values .now)) (a .main .now),
+      (slice-refused (a .self) (a .values .now) (length (a .main .now)) (length (a .dispersion .now)) (length (a .main-marks .now)) (length (a .dispersion-marks .now)) is found plusZero (seriesOf (a .self) 1 (a .values .now)) (a .dispersion .now),
+      (slice-refused (a .self) (a .values .now) (length (a .main .now)) (length (a .dispersion .now)) (length (a .main-marks .now)) (length (a .dispersion-marks .now)) is found 0 (seriesMarks (a .self) 0 (a .values .now)) (a .main-marks .now),
+      slice-refused (a .self) (a .values .now) (length (a .main .now)) (length (a .dispersion .now)) (length (a .main-marks .now)) (length (a .dispersion-marks .now)) is found 0 (seriesMarks (a .self) 1 (a .values .now)) (a .dispersion-marks .now)))),
+    )
+
+same-length : tie.Need-same-length
+same-length c = search needs
+
+same-length-2 : tie.Need-same-length-2
+same-length-2 c = search needs
+
+same-length-3 : tie.Need-same-length-3
+same-length-3 c = search needs
+
+same-length-4 : tie.Need-same-length-4
+same-length-4 c = search needs
+
+returns-2 : tie.Need-returns-2
+returns-2 c =
+    let a = c .before .before .before .before .before .before .before .before .before .before .before .before .before .before .before .before .before .before .before .before .before .args in
+    let number = sym (c .before .before .before .before .before .before .before .before .before .before .before .before .before .before .before .check .ensures) ∙ ap tested (c .before .before .before .before .before .before .before .before .before .before .before .before .before .enum-told .given .1) in
+    let e = c .before .before .before .before .before .before .before .before .evaluate .ensures in
+    (e .0 ∙ answer-passed (a .self) (a .values .now) (length (a .main .now)) (length (a .dispersion .now)) (length (a .main-marks .now)) (length (a .dispersion-marks .now)) (ahead (a .self) (a .values .now) (length (a .main .now)) (length (a .dispersion .now)) (length (a .main-marks .now)) (length (a .dispersion-marks .now)) number), e .1)
+
+pub evaluate-spec : {M : Type 1} → statement M
+evaluate-spec =
+    tie.close
+    (tie.spec
+    check-requires
+    enum-known-why
+    enum-told
+    evaluate-requires
+    returns
+    same-length
+    same-length-2
+    same-length-3
+    same-length-4
+    returns-2)

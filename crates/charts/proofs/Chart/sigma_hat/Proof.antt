@@ -1,0 +1,41 @@
+-- `Chart::sigma_hat` meets its contract: refused as the survey was, or from the centre line that it found. Assumes nothing.
+use mathlib.Core.Path.{sym, ap, _∙_}
+use lib.ListN.{length}
+use lib.Ieee.{Float}
+use Rattle.charts.specs.Limits.{measured}
+use Rattle.charts.specs.Sigma.{sigmaNumber, unlessRefused, sigmaFrom, sigmaHatOf}
+use Rattle.charts.specs.Steps.{surveyed}
+use Rattle.charts.proofs.Held.{own-of}
+use Rattle.charts.proofs.Surveys.{figure-refused, figure-done, number-done, surveyed-right}
+use borrow.Author.Needs.{needs}
+use Rattle.charts.proofs.Chart.sigma_hat.Statement.{statement}
+use Rattle.charts.proofs.Chart.sigma_hat.Tie as tie
+
+survey-requires : tie.Need-survey-requires
+survey-requires c κs = search needs
+
+enum-known-why : tie.Need-enum-known-why
+enum-known-why c = search needs
+
+enum-known-mean : tie.Need-enum-known-mean
+enum-known-mean c = search needs
+
+sigma-from-requires : tie.Need-sigma-from-requires
+sigma-from-requires c κs =
+    let found = sym (ap surveyed (c .before .mean .given .1)) ∙ c .before .before .before .survey .ensures in
+    own-of (c .before .before .before .before .before .args .self) (length (c .before .before .before .before .before .args .values .now)) (surveyed-right (c .before .before .before .before .before .args .self) (c .before .before .before .before .before .args .values .now) (number-done (sigmaNumber (c .before .before .before .before .before .args .self) (c .before .before .before .before .before .args .values .now)) (measured (c .before .before .before .before .before .args .self) (c .before .before .before .before .before .args .values .now) .dispersion .cl) _ found) .0)
+
+returns : tie.Need-returns
+unfolding sigmaHatOf
+returns c = figure-refused (sigmaNumber (c .before .before .before .before .before .args .self) (c .before .before .before .before .before .args .values .now)) (measured (c .before .before .before .before .before .args .self) (c .before .before .before .before .before .args .values .now) .dispersion .cl) (c .before .why .given .1) (c .before .before .before .survey .ensures) _
+
+returns-2 : tie.Need-returns-2
+unfolding sigmaHatOf
+returns-2 c =
+    ap (λ (v : Float). (0, v)) (c .sigma-from .ensures)
+    ∙ figure-done (sigmaNumber (c .before .before .before .before .before .before .args .self) (c .before .before .before .before .before .before .args .values .now)) (measured (c .before .before .before .before .before .before .args .self) (c .before .before .before .before .before .before .args .values .now) .dispersion .cl) _ (sym (ap surveyed (c .before .before .mean .given .1)) ∙ c .before .before .before .before .survey .ensures) (sigmaFrom (c .before .before .before .before .before .before .args .self))
+
+pub sigma-hat-spec : {M : Type 1} → statement M
+sigma-hat-spec =
+    tie.close
+    (tie.spec survey-requires enum-known-why enum-known-mean sigma-from-requires returns returns-2)

@@ -1,0 +1,50 @@
+-- `sigma::survey` meets its contract: refused ahead of the arithmetic, or what the limits say. Assumes nothing.
+use mathlib.Core.Path.{_≡_, sym, ap, _∙_}
+use Prim.Native.Nat.{ℕ}
+use Rattle.laws.specs.Refusals.{firstOf}
+use Rattle.charts.specs.Limits.{measured}
+use Rattle.charts.specs.Evaluating.{aheadOf7}
+use Rattle.charts.specs.Steps.{tested}
+use Rattle.charts.proofs.Outcomes.{Ahead, ahead}
+use Rattle.charts.proofs.Surveys.{survey-refused, survey-passed}
+use borrow.Author.Needs.{needs}
+use Rattle.charts.proofs.sigma.survey.Statement.{statement}
+use Rattle.charts.proofs.sigma.survey.Tie as tie
+
+fine : (c : tie.After-enum-told) → Ahead (c .before .before .before .before .args .c) (c .before .before .before .before .args .values .now) 4096 4096 4096 4096
+fine c = ahead (c .before .before .before .before .args .c) (c .before .before .before .before .args .values .now) 4096 4096 4096 4096 (sym (c .before .before .check .ensures) ∙ ap tested (c .enum-told .given .1))
+
+check-requires : tie.Need-check-requires
+check-requires c κs = search needs
+
+enum-known-why : tie.Need-enum-known-why
+enum-known-why c = search needs
+
+enum-told : tie.Need-enum-told
+enum-told c = search needs
+
+measure-requires : tie.Need-measure-requires
+measure-requires c κs = let h = fine c in (h .right, h .some)
+
+centre-requires : tie.Need-centre-requires
+centre-requires c κs = search needs
+
+returns : tie.Need-returns
+returns c =
+    survey-refused (c .before .before .before .before .before .args .c) (c .before .before .before .before .before .args .values .now) (c .before .why .given .1) (c .before .before .before .check .ensures)
+    (measured (c .before .before .before .before .before .args .c) (c .before .before .before .before .before .args .values .now) .dispersion .cl)
+
+returns-2 : tie.Need-returns-2
+returns-2 c = c .centre .ensures ∙ survey-passed (c .before .before .before .before .before .before .args .c) (c .before .before .before .before .before .before .args .values .now) (fine (c .before .before)) (c .before .measure .ensures)
+
+pub survey-spec : {M : Type 1} → statement M
+survey-spec =
+    tie.close
+    (tie.spec
+    check-requires
+    enum-known-why
+    enum-told
+    measure-requires
+    centre-requires
+    returns
+    returns-2)
