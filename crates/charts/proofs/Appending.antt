@@ -11,8 +11,8 @@ use Rattle.charts.specs.Records.{valuesAfter}
 -- the part from `at` on was lent, and `part` came back
 pub appended : (c : Chart) (values sample part : List Float) → part ≡ sample → length sample ≡ c .size
     → take (c .count * c .size) values
-      ++ (part ++ drop (c .count * c .size + c .size - c .count * c .size) (drop (c .count * c .size) values))
-      ≡ valuesAfter 0 c sample values
+    ++ (part ++ drop (c .count * c .size + c .size - c .count * c .size) (drop (c .count * c .size) values))
+    ≡ valuesAfter 0 c sample values
 unfolding valuesAfter
 appended c values sample part e n =
     ap₂ (λ (p : List Float) (k : ℕ). take (c .count * c .size) values ++ (p ++ drop k (drop (c .count * c .size) values))) e

@@ -1,7 +1,7 @@
 -- The number of marks: the code counts the ones of each point's marks, and those are the pairs of the point and a test. Assumes nothing.
 use mathlib.Core.Path.{_≡_, refl, sym, ap, ap₂, _∙_, fun-ext}
 use mathlib.Core.Bool.{Bool, cond, _&&_}
-use mathlib.Core.List.{List, [], _∷_, map}
+use mathlib.Core.List.{List, map}
 use Prim.Native.Nat.{ℕ, zero, suc, _+_, _-_, _≤_, _<_}
 use native.Mathlib.Nat.{sub-zero}
 use native.Mathlib.Numerals.{add-one}
@@ -12,7 +12,7 @@ use lib.Ieee.{Float}
 use lib.ListN.{length, getD, take, drop, length-take, drop-of-length-le}
 use lib.Seq.{drop-cons, take-at}
 use Rattle.laws.specs.Bools.{count}
-use Rattle.laws.specs.Lists.{tabulate, tabulateFrom}
+use Rattle.laws.specs.Lists.{tabulateFrom}
 use Rattle.laws.specs.Front.{atFront}
 use Rattle.laws.proofs.Lists.{length-tabulate}
 use Rattle.laws.proofs.FirstBits.{ones-fromBits}
@@ -20,7 +20,6 @@ use Rattle.sets.specs.declared.Test.{Test}
 use Rattle.sets.specs.Sets.{tests, has, setOf}
 use Rattle.sets.proofs.Sets.{has-setOf}
 use Rattle.rules.specs.declared.Limits.{Limits}
-use Rattle.rules.specs.declared.Lines.{Lines}
 use Rattle.rules.specs.Lines.{linesOf}
 use Rattle.rules.specs.Marking.{newestFirst, stands, marksAt, marksOf, answerOf, marksAfter}
 use Rattle.charts.specs.Evaluating.{numberOf}

@@ -1,14 +1,14 @@
 -- What a record tells that is not wrong: bounds of its numbers, and room for its values. Assumes nothing.
 use mathlib.Core.Path.{_≡_, sym, _∙_}
-use mathlib.Core.Bool.{Bool, true, false, not, _||_}
-use Prim.Native.Nat.{ℕ, zero, suc, _+_, _-_, _*_, _≤_, _<_}
+use mathlib.Core.Bool.{false, not, _||_}
+use Prim.Native.Nat.{ℕ, _-_, _*_, _≤_}
 use native.Mathlib.Decide.{ℕ-discrete}
 use native.Mathlib.Nat.{mul-le-mul-right, mul-le-mul-left, le-trans}
 use native.Mathlib.Omega.{arith}
 use borrow.Author.Tests.{ltb-false, eqb-true, not-false}
 use lib.Dec.{ltb, eqb}
 use Rattle.charts.specs.declared.Chart.{Chart}
-use Rattle.charts.specs.Records.{byKind, kindWrong, subgroupWrong, sizeWrong, ownWrong, recordWrong}
+use Rattle.charts.specs.Records.{kindWrong, subgroupWrong, sizeWrong, ownWrong, recordWrong}
 use Rattle.charts.proofs.Cases.{kind-1, subgroups, or-left, or-right}
 
 -- ---- sizes

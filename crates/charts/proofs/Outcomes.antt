@@ -2,14 +2,14 @@
 use mathlib.Core.Path.{_≡_, refl, sym, ap, ap₂, _∙_}
 use mathlib.Core.Bool.{Bool, true, false, not, cond, _&&_, _||_}
 use mathlib.Core.List.{List, [], _∷_, _++_}
-use Prim.Native.Nat.{ℕ, zero, suc, _+_, _-_, _≤_, _<_}
+use Prim.Native.Nat.{ℕ, _+_, _-_, _≤_}
 use native.Mathlib.Decide.{ℕ-discrete}
 use native.Mathlib.Nat.{sub-zero}
 use native.Mathlib.Omega.{arith}
-use borrow.Author.Tests.{ltb-false, ne-eqb, not-true, not-false}
+use borrow.Author.Tests.{ltb-false, ne-eqb, not-false}
 use lib.Dec.{ltb, eqb}
 use lib.Ieee.{Float}
-use lib.ListN.{length, take, drop, replicate}
+use lib.ListN.{length, take, replicate}
 use lib.Seq.{take-at}
 use Rattle.laws.specs.Refusals.{firstOf}
 use Rattle.laws.specs.Lists.{tabulate}
@@ -20,20 +20,20 @@ use Rattle.rules.specs.declared.Limits.{Limits}
 use Rattle.rules.specs.Finite.{allFinite, finiteLimits}
 use Rattle.rules.specs.Marking.{marksOf}
 use Rattle.rules.specs.Marking as marking
-use Rattle.rules.proofs.Accepted.{Accepted, accepts}
+use Rattle.rules.proofs.Accepted.{accepts}
 use Rattle.charts.specs.declared.Chart.{Chart}
 use Rattle.charts.specs.declared.Refusal.{Refusal}
 use Rattle.charts.specs.declared.Refusal.the-variants as refusing
 use Rattle.charts.specs.declared.limits.Measured.{Measured}
 use Rattle.charts.specs.declared.evaluate.Tested.{Tested}
 use Rattle.charts.specs.declared.evaluate.Tested.the-variants as testing
-use Rattle.charts.specs.Records.{number, byKind, recordWrong}
+use Rattle.charts.specs.Records.{number, recordWrong}
 use Rattle.charts.specs.Series.{bySeries, pointAt, pointsIn, seriesOf}
-use Rattle.charts.specs.Limits.{mainLimits, dispersionLimits, limitsFrom, measuredOf, measured}
-use Rattle.charts.specs.Evaluating.{Answer, answerDone, answerRefused, tooFew, noRoom, storedIn, aheadOf7, at7, seriesMarks, numberOf, doneOf, answerOf, evaluateOf, lentAfter}
+use Rattle.charts.specs.Limits.{limitsFrom, measuredOf, measured}
+use Rattle.charts.specs.Evaluating.{answerDone, answerRefused, tooFew, noRoom, storedIn, aheadOf7, at7, seriesMarks, numberOf, doneOf, answerOf, evaluateOf, lentAfter}
 use Rattle.charts.specs.Steps.{tested}
 use Rattle.charts.proofs.Cases.{kind-1, subgroups, or-left, or-right}
-use Rattle.charts.proofs.Held.{Held, held}
+use Rattle.charts.proofs.Held.{held}
 use Rattle.charts.proofs.Points.{points-most}
 
 -- ---- refusals
@@ -244,7 +244,7 @@ module _ (c : Chart) (values : List Float) {w : Measured} (e : w ≡ measured c 
 
   pub answer-done : not (w .sound) ≡ false
       → answerDone (w .main) (w .dispersion) (numberOf (marksOf (w .main) (c .set .mask) main) + numberOf (marksOf (w .dispersion) (c .set .mask) dispersion))
-        ≡ answerOf (firstOf (at7 c values) 0) c values
+      ≡ answerOf (firstOf (at7 c values) 0) c values
   unfolding answerOf
   answer-done ok =
       ap₂ (λ (k n : ℕ). answerDone (w .main) (w .dispersion) (k + n)) (ap numberOf main-marks) (ap numberOf dispersion-marks)

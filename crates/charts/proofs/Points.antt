@@ -1,7 +1,7 @@
 -- A point of a series: how far it reaches into the values, and its case. Assumes nothing.
 use mathlib.Core.Path.{_≡_, sym, ap, _∙_}
 use mathlib.Core.List.{List}
-use Prim.Native.Nat.{ℕ, zero, suc, _+_, _-_, _*_, _≤_, _<_}
+use Prim.Native.Nat.{ℕ, suc, _+_, _-_, _*_, _≤_, _<_}
 use native.Mathlib.Decide.{ℕ-discrete}
 use native.Mathlib.Nat.{mul-le-mul-right, mul-le-mul-left, suc-mul, mul-one, le-trans, add-sub-cancel-left}
 use native.Mathlib.Omega.{arith}
@@ -13,7 +13,7 @@ use Rattle.charts.specs.declared.Chart.{Chart}
 use Rattle.charts.specs.Records.{recordWrong}
 use Rattle.charts.specs.Series.{bySeries, sampleAt, rangePoint, deviationPoint, individualAt, pointAt, pointsIn}
 use Rattle.charts.proofs.Cases.{kind-1, kind-2, kind-3, subgroups, series-0, series-1}
-use Rattle.charts.proofs.Held.{Held, held}
+use Rattle.charts.proofs.Held.{held}
 
 -- ---- how many points
 

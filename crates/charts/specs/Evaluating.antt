@@ -14,7 +14,6 @@ use Rattle.rules.specs.declared.Limits.{Limits}
 use Rattle.rules.specs.Finite.{allFinite}
 use Rattle.rules.specs.Marking.{marksOf}
 use Rattle.charts.specs.declared.Chart.{Chart}
-use Rattle.charts.specs.declared.Evaluation.{Evaluation}
 use Rattle.charts.specs.declared.Evaluated.{Evaluated}
 use Rattle.charts.specs.declared.Evaluated.the-variants.{Done, Refused}
 use Rattle.charts.specs.Arith.{plusZero}

@@ -1,6 +1,6 @@
 -- The sigma figures (01, 'The charts': "by the source's formulas, in its order of operations"; Order: "Sigma figures: 14, 8, 3, 7, as
 -- evaluating would"). Definitions only.
-use mathlib.Core.Bool.{Bool, cond, not}
+use mathlib.Core.Bool.{cond, not}
 use mathlib.Core.List.{List, [], _∷_}
 use Prim.Native.Nat.{ℕ, _-_}
 use lib.Dec.{eqb}

@@ -1,17 +1,17 @@
 // Evaluating.
-use sets::RuleSet;
+use super::Chart;
+use super::Evaluated;
+use super::Evaluation;
+use super::Refusal;
 use super::lent;
 use super::limits;
 use super::limits::Measured;
 use super::marks;
 use super::records;
 use super::series;
-use super::Chart;
-use super::Evaluated;
-use super::Evaluation;
-use super::Refusal;
+use sets::RuleSet;
 ghost use mathlib.Core.Path.{_≡_};
-ghost use mathlib.Core.Bool.{true, false};
+ghost use mathlib.Core.Bool.{false};
 ghost use Prim.Native.Nat.{_+_, _≤_};
 ghost use lib.ListN.{length};
 ghost use Rattle.laws.specs.Refusals.{firstOf};
@@ -40,7 +40,13 @@ fn too_few(c: Chart) -> bool
     c.count < 1
 }
 
-fn no_room(c: Chart, main: usize, dispersion: usize, main_marks: usize, dispersion_marks: usize) -> bool
+fn no_room(
+    c: Chart,
+    main: usize,
+    dispersion: usize,
+    main_marks: usize,
+    dispersion_marks: usize,
+) -> bool
     requires { ⌜ 1 ≤ c .count ⌝ }
     ensures { λ r. ⌜ r ≡ noRoom c main dispersion «main_marks» «dispersion_marks» ⌝ }
 {
@@ -78,7 +84,8 @@ pub fn check(
 
 // Writes both series, and gives their limits.
 pub fn measure(c: Chart, values: &[f64], main: &mut [f64], dispersion: &mut [f64]) -> Measured
-    requires { ⌜ (recordWrong c (length (now values)) ≡ false) × (1 ≤ c .count) × (pointsIn c 0 ≤ length (now main)) × (pointsIn c 1 ≤ length (now dispersion)) ⌝ }
+    requires { ⌜ (recordWrong c (length (now values)) ≡ false) × (1 ≤ c .count)
+        × (pointsIn c 0 ≤ length (now main)) × (pointsIn c 1 ≤ length (now dispersion)) ⌝ }
     ensures limits { λ r. ⌜ r ≡ measured c (now (values .entry)) ⌝ }
     ensures main { λ r. ⌜ now (main .exit) ≡ atFront (seriesOf c 0 (now (values .entry))) (now (main .entry)) ⌝ }
     ensures dispersion { λ r. ⌜ now (dispersion .exit) ≡ atFront (seriesOf c 1 (now (values .entry))) (now (dispersion .entry)) ⌝ }
@@ -101,19 +108,26 @@ fn mark_both(
 ) -> Evaluation
     requires { ⌜ (marking.answerOf (w .main) (set .mask) (now main) (length (now «main_marks»)) ≡ 0)
         × (marking.answerOf (w .dispersion) (set .mask) (now dispersion) (length (now «dispersion_marks»)) ≡ 0) ⌝ }
-    ensures answer { λ r. ⌜ r ≡ record { main = w .main; dispersion = w .dispersion;
-        marks = numberOf (marksOf (w .main) (set .mask) (now (main .entry))) + numberOf (marksOf (w .dispersion) (set .mask) (now (dispersion .entry))) } ⌝ }
-    ensures main_marks { λ r. ⌜ now («main_marks» .exit) ≡ atFront (marksOf (w .main) (set .mask) (now (main .entry))) (now («main_marks» .entry)) ⌝ }
-    ensures dispersion_marks { λ r. ⌜ now («dispersion_marks» .exit) ≡ atFront (marksOf (w .dispersion) (set .mask) (now (dispersion .entry))) (now («dispersion_marks» .entry)) ⌝ }
+    ensures answer { λ r. ⌜ r ≡ record {
+      main = w .main;
+      dispersion = w .dispersion;
+      marks = numberOf (marksOf (w .main) (set .mask) (now (main .entry)))
+          + numberOf (marksOf (w .dispersion) (set .mask) (now (dispersion .entry)));
+    } ⌝ }
+    ensures main_marks { λ r. ⌜ now («main_marks» .exit)
+        ≡ atFront (marksOf (w .main) (set .mask) (now (main .entry))) (now («main_marks» .entry)) ⌝ }
+    ensures dispersion_marks { λ r. ⌜ now («dispersion_marks» .exit)
+        ≡ atFront (marksOf (w .dispersion) (set .mask) (now (dispersion .entry))) (now («dispersion_marks» .entry)) ⌝ }
 {
     let a = w.main;
     let b = w.dispersion;
     let n = marks::mark(main, a, set, main_marks);
     let k = marks::mark(dispersion, b, set, dispersion_marks);
+    let marks = n + k;
     Evaluation {
         main: a,
         dispersion: b,
-        marks: n + k,
+        marks: marks,
     }
 }
 
@@ -126,12 +140,17 @@ pub fn evaluate(
     main_marks: &mut [u16],
     dispersion_marks: &mut [u16],
 ) -> Evaluated
-    requires { ⌜ firstOf (aheadOf7 c (now values) (length (now main)) (length (now dispersion)) (length (now «main_marks»)) (length (now «dispersion_marks»))) 0 ≡ 0 ⌝ }
+    requires { ⌜ firstOf (aheadOf7 c (now values) (length (now main)) (length (now dispersion))
+        (length (now «main_marks»)) (length (now «dispersion_marks»))) 0 ≡ 0 ⌝ }
     ensures answer { λ r. ⌜ evaluated r ≡ answerOf (firstOf (at7 c (now (values .entry))) 0) c (now (values .entry)) ⌝ }
-    ensures main { λ r. ⌜ now (main .exit) ≡ lentAfter (evaluated r .number) plusZero (seriesOf c 0 (now (values .entry))) (now (main .entry)) ⌝ }
-    ensures dispersion { λ r. ⌜ now (dispersion .exit) ≡ lentAfter (evaluated r .number) plusZero (seriesOf c 1 (now (values .entry))) (now (dispersion .entry)) ⌝ }
-    ensures main_marks { λ r. ⌜ now («main_marks» .exit) ≡ lentAfter (evaluated r .number) 0 (seriesMarks c 0 (now (values .entry))) (now («main_marks» .entry)) ⌝ }
-    ensures dispersion_marks { λ r. ⌜ now («dispersion_marks» .exit) ≡ lentAfter (evaluated r .number) 0 (seriesMarks c 1 (now (values .entry))) (now («dispersion_marks» .entry)) ⌝ }
+    ensures main { λ r. ⌜ now (main .exit)
+        ≡ lentAfter (evaluated r .number) plusZero (seriesOf c 0 (now (values .entry))) (now (main .entry)) ⌝ }
+    ensures dispersion { λ r. ⌜ now (dispersion .exit)
+        ≡ lentAfter (evaluated r .number) plusZero (seriesOf c 1 (now (values .entry))) (now (dispersion .entry)) ⌝ }
+    ensures main_marks { λ r. ⌜ now («main_marks» .exit)
+        ≡ lentAfter (evaluated r .number) 0 (seriesMarks c 0 (now (values .entry))) (now («main_marks» .entry)) ⌝ }
+    ensures dispersion_marks { λ r. ⌜ now («dispersion_marks» .exit)
+        ≡ lentAfter (evaluated r .number) 0 (seriesMarks c 1 (now (values .entry))) (now («dispersion_marks» .entry)) ⌝ }
 {
     let n = series::points_in(c, 0);
     let k = series::points_in(c, 1);
@@ -141,5 +160,12 @@ pub fn evaluate(
         return Evaluated::Refused(Refusal::Overflow);
     }
     let set = c.set;
-    Evaluated::Done(mark_both(set, w, &main[0..n], &dispersion[0..k], main_marks, dispersion_marks))
+    Evaluated::Done(mark_both(
+        set,
+        w,
+        &main[0..n],
+        &dispersion[0..k],
+        main_marks,
+        dispersion_marks,
+    ))
 }

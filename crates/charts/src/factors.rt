@@ -5,12 +5,19 @@ ghost use Rattle.charts.specs.Factors.{factorOf};
 
 // The rows.
 pub const A2: usize = 0;
+
 pub const D3: usize = 1;
+
 pub const D4: usize = 2;
+
 pub const D2: usize = 3;
+
 pub const A3: usize = 4;
+
 pub const B3: usize = 5;
+
 pub const B4: usize = 6;
+
 pub const C4: usize = 7;
 
 // A column is for the size of its number plus 2.

@@ -36,7 +36,12 @@ fn zero_marks(out: &mut [u16])
 }
 
 // Both series and both mark slices, zero throughout.
-pub fn zero_all(main: &mut [f64], dispersion: &mut [f64], main_marks: &mut [u16], dispersion_marks: &mut [u16])
+pub fn zero_all(
+    main: &mut [f64],
+    dispersion: &mut [f64],
+    main_marks: &mut [u16],
+    dispersion_marks: &mut [u16],
+)
     ensures main { λ _. ⌜ now (main .exit) ≡ replicate (length (now (main .entry))) plusZero ⌝ }
     ensures dispersion { λ _. ⌜ now (dispersion .exit) ≡ replicate (length (now (dispersion .entry))) plusZero ⌝ }
     ensures main_marks { λ _. ⌜ now («main_marks» .exit) ≡ replicate (length (now («main_marks» .entry))) 0 ⌝ }

@@ -184,7 +184,8 @@ impl Chart {
     /// with count 1.
     pub fn add(self, values: &mut [f64], sample: &[f64]) -> Changed
         ensures answer { λ r. ⌜ changed self r ≡ addOf self (now (values .entry)) (now (sample .entry)) ⌝ }
-        ensures values { λ r. ⌜ now (values .exit) ≡ valuesAfter (changed self r .0) self (now (sample .entry)) (now (values .entry)) ⌝ }
+        ensures values { λ r. ⌜ now (values .exit)
+            ≡ valuesAfter (changed self r .0) self (now (sample .entry)) (now (values .entry)) ⌝ }
     {
         if records::record_wrong(self, values.len()) {
             return Changed::Refused(Refusal::Record);
@@ -203,12 +204,13 @@ impl Chart {
         if values.len() < end {
             return Changed::Refused(Refusal::TooShort);
         }
-        let set = self.set;
         lent::copy(&mut values[at..end], sample);
+        let count = self.count + 1;
+        let set = self.set;
         Changed::Done(Chart {
             kind: self.kind,
             size: self.size,
-            count: self.count + 1,
+            count: count,
             set: set,
         })
     }
@@ -232,12 +234,17 @@ impl Chart {
         main_marks: &mut [u16],
         dispersion_marks: &mut [u16],
     ) -> Evaluated
-        ensures answer { λ r. ⌜ evaluated r ≡ evaluateOf self (now (values .entry)) (length (now (main .entry))) (length (now (dispersion .entry)))
+        ensures answer { λ r. ⌜ evaluated r
+            ≡ evaluateOf self (now (values .entry)) (length (now (main .entry))) (length (now (dispersion .entry)))
             (length (now («main_marks» .entry))) (length (now («dispersion_marks» .entry))) ⌝ }
-        ensures main { λ r. ⌜ now (main .exit) ≡ lentAfter (evaluated r .number) plusZero (seriesOf self 0 (now (values .entry))) (now (main .entry)) ⌝ }
-        ensures dispersion { λ r. ⌜ now (dispersion .exit) ≡ lentAfter (evaluated r .number) plusZero (seriesOf self 1 (now (values .entry))) (now (dispersion .entry)) ⌝ }
-        ensures main_marks { λ r. ⌜ now («main_marks» .exit) ≡ lentAfter (evaluated r .number) 0 (seriesMarks self 0 (now (values .entry))) (now («main_marks» .entry)) ⌝ }
-        ensures dispersion_marks { λ r. ⌜ now («dispersion_marks» .exit) ≡ lentAfter (evaluated r .number) 0 (seriesMarks self 1 (now (values .entry))) (now («dispersion_marks» .entry)) ⌝ }
+        ensures main { λ r. ⌜ now (main .exit)
+            ≡ lentAfter (evaluated r .number) plusZero (seriesOf self 0 (now (values .entry))) (now (main .entry)) ⌝ }
+        ensures dispersion { λ r. ⌜ now (dispersion .exit)
+            ≡ lentAfter (evaluated r .number) plusZero (seriesOf self 1 (now (values .entry))) (now (dispersion .entry)) ⌝ }
+        ensures main_marks { λ r. ⌜ now («main_marks» .exit)
+            ≡ lentAfter (evaluated r .number) 0 (seriesMarks self 0 (now (values .entry))) (now («main_marks» .entry)) ⌝ }
+        ensures dispersion_marks { λ r. ⌜ now («dispersion_marks» .exit)
+            ≡ lentAfter (evaluated r .number) 0 (seriesMarks self 1 (now (values .entry))) (now («dispersion_marks» .entry)) ⌝ }
     {
         match evaluate::check(
             self,

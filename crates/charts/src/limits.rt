@@ -1,13 +1,12 @@
 // The limits of both series.
-use rules::finite;
-use rules::Limits;
+use super::Chart;
 use super::arith;
 use super::factors;
-use super::Chart;
+use rules::Limits;
+use rules::finite;
 ghost use mathlib.Core.Path.{_≡_};
-ghost use mathlib.Core.Bool.{false, _&&_};
+ghost use mathlib.Core.Bool.{false};
 ghost use Prim.Native.Nat.{_<_};
-ghost use Rattle.rules.specs.Finite.{allFinite, finiteLimits};
 ghost use Rattle.charts.specs.Records.{ownWrong};
 ghost use Rattle.charts.specs.Limits.{factorFor, mainLimits, lowerLimit, dispersionLimits, limitsFrom, measuredOf};
 

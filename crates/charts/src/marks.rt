@@ -2,7 +2,7 @@
 use rules::Limits;
 use sets::RuleSet;
 ghost use mathlib.Core.Path.{_≡_};
-ghost use Prim.Native.Nat.{_*_, _≤_};
+ghost use Prim.Native.Nat.{_≤_};
 ghost use lib.ListN.{length};
 ghost use Rattle.laws.specs.Front.{atFront};
 ghost use Rattle.rules.specs.Marking.{marksOf, answerOf};

@@ -1,6 +1,6 @@
 // The two series: 0 is the main one, 1 that of the dispersion.
-use super::arith;
 use super::Chart;
+use super::arith;
 ghost use mathlib.Core.Path.{_≡_};
 ghost use mathlib.Core.Bool.{false};
 ghost use Prim.Native.Nat.{_+_, _≤_, _<_};

@@ -1,10 +1,10 @@
 // The sigma figures.
+use super::Chart;
+use super::Refusal;
 use super::evaluate;
 use super::factors;
 use super::limits;
 use super::limits::Measured;
-use super::Chart;
-use super::Refusal;
 ghost use mathlib.Core.Path.{_≡_};
 ghost use mathlib.Core.Bool.{false};
 ghost use Prim.Native.Nat.{_≤_};
@@ -41,7 +41,8 @@ fn centre(w: Measured) -> Surveyed
 
 // What evaluating would find, with slices that are long enough for any chart.
 pub fn survey(c: Chart, values: &[f64]) -> Surveyed
-    ensures { λ r. ⌜ surveyed r ≡ unlessRefused (sigmaNumber c (now (values .entry))) (measured c (now (values .entry)) .dispersion .cl) ⌝ }
+    ensures { λ r. ⌜ surveyed r
+        ≡ unlessRefused (sigmaNumber c (now (values .entry))) (measured c (now (values .entry)) .dispersion .cl) ⌝ }
 {
     match evaluate::check(c, values, 4096, 4096, 4096, 4096) {
         evaluate::Tested::Refused(why) => Surveyed::Refused(why),

@@ -4,7 +4,7 @@ use mathlib.Core.List.{List, _++_, append-nil}
 use Prim.Native.Nat.{ℕ, _+_, _≤_, _<_}
 use native.Mathlib.Nat.{le-of-eq}
 use native.Mathlib.Omega.{arith}
-use lib.ListN.{length, set, drop, replicate, length-replicate, getD-replicate, drop-of-length-le}
+use lib.ListN.{length, set, replicate, length-replicate, getD-replicate, drop-of-length-le}
 use Rattle.laws.proofs.Filling.{Filling, filling-starts, filling-length, filling-goes-on, filling-ends}
 
 module _ {A : Type 0} (z : A) (old : List A) where

@@ -20,18 +20,30 @@ enum-told : tie.Need-enum-told
 enum-told c = search needs
 
 evaluate-requires : tie.Need-evaluate-requires
-evaluate-requires c κs = sym (c .before .before .before .before .before .before .check .ensures) ∙ ap tested (c .before .before .before .before .enum-told .given .1)
+evaluate-requires c κs =
+    let enum-told = c .before .before .before .before .enum-told in
+    let check = c .before .before .before .before .before .before .check in
+    sym (check .ensures) ∙ ap tested (enum-told .given .1)
 
 returns : tie.Need-returns
 returns c =
-    let a = c .before .before .before .before .before .before .before .before .before .args in
-    let is = c .before .why .given .1 in
-    let found = c .before .before .before .check .ensures in (
+    let why = c .before .why in
+    let check = c .before .before .before .check in
+    let args = c .before .before .before .before .before .before .before .before .before .args in
+    let a = args in
+    let is = why .given .1 in
+    let found = check .ensures in (
       answer-refused (a .self) (a .values .now) (length (a .main .now)) (length (a .dispersion .now)) (length (a .main-marks .now)) (length (a .dispersion-marks .now)) is found,
-      (slice-refused (a .self) (a .values .now) (length (a .main .now)) (length (a .dispersion .now)) (length (a .main-marks .now)) (length (a .dispersion-marks .now)) is found plusZero (seriesOf (a .self) 0 (a .values .now)) (a .main .now),
-      (slice-refused (a .self) (a .values .now) (length (a .main .now)) (length (a .dispersion .now)) (length (a .main-marks .now)) (length (a .dispersion-marks .now)) is found plusZero (seriesOf (a .self) 1 (a .values .now)) (a .dispersion .now),
-      (slice-refused (a .self) (a .values .now) (length (a .main .now)) (length (a .dispersion .now)) (length (a .main-marks .now)) (length (a .dispersion-marks .now)) is found 0 (seriesMarks (a .self) 0 (a .values .now)) (a .main-marks .now),
-      slice-refused (a .self) (a .values .now) (length (a .main .now)) (length (a .dispersion .now)) (length (a .main-marks .now)) (length (a .dispersion-marks .now)) is found 0 (seriesMarks (a .self) 1 (a .values .now)) (a .dispersion-marks .now)))),
+      (
+        slice-refused (a .self) (a .values .now) (length (a .main .now)) (length (a .dispersion .now)) (length (a .main-marks .now)) (length (a .dispersion-marks .now)) is found plusZero (seriesOf (a .self) 0 (a .values .now)) (a .main .now),
+        (
+          slice-refused (a .self) (a .values .now) (length (a .main .now)) (length (a .dispersion .now)) (length (a .main-marks .now)) (length (a .dispersion-marks .now)) is found plusZero (seriesOf (a .self) 1 (a .values .now)) (a .dispersion .now),
+          (
+            slice-refused (a .self) (a .values .now) (length (a .main .now)) (length (a .dispersion .now)) (length (a .main-marks .now)) (length (a .dispersion-marks .now)) is found 0 (seriesMarks (a .self) 0 (a .values .now)) (a .main-marks .now),
+            slice-refused (a .self) (a .values .now) (length (a .main .now)) (length (a .dispersion .now)) (length (a .main-marks .now)) (length (a .dispersion-marks .now)) is found 0 (seriesMarks (a .self) 1 (a .values .now)) (a .dispersion-marks .now),
+          ),
+        ),
+      ),
     )
 
 same-length : tie.Need-same-length
@@ -48,10 +60,18 @@ same-length-4 c = search needs
 
 returns-2 : tie.Need-returns-2
 returns-2 c =
-    let a = c .before .before .before .before .before .before .before .before .before .before .before .before .before .before .before .before .before .before .before .before .before .args in
-    let number = sym (c .before .before .before .before .before .before .before .before .before .before .before .before .before .before .before .check .ensures) ∙ ap tested (c .before .before .before .before .before .before .before .before .before .before .before .before .before .enum-told .given .1) in
-    let e = c .before .before .before .before .before .before .before .before .evaluate .ensures in
-    (e .0 ∙ answer-passed (a .self) (a .values .now) (length (a .main .now)) (length (a .dispersion .now)) (length (a .main-marks .now)) (length (a .dispersion-marks .now)) (ahead (a .self) (a .values .now) (length (a .main .now)) (length (a .dispersion .now)) (length (a .main-marks .now)) (length (a .dispersion-marks .now)) number), e .1)
+    let evaluate = c .before .before .before .before .before .before .before .before .evaluate in
+    let enum-told = c .before .before .before .before .before .before .before .before .before .before .before .before .before .enum-told in
+    let back = c .before .before .before .before .before .before .before .before .before .before .before .before .before in
+    let check = back .before .before .check in
+    let args = back .before .before .before .before .before .before .before .before .args in
+    let a = args in
+    let number = sym (check .ensures) ∙ ap tested (enum-told .given .1) in
+    let e = evaluate .ensures in (
+      e .0
+          ∙ answer-passed (a .self) (a .values .now) (length (a .main .now)) (length (a .dispersion .now)) (length (a .main-marks .now)) (length (a .dispersion-marks .now)) (ahead (a .self) (a .values .now) (length (a .main .now)) (length (a .dispersion .now)) (length (a .main-marks .now)) (length (a .dispersion-marks .now)) number),
+      e .1,
+    )
 
 pub evaluate-spec : {M : Type 1} → statement M
 evaluate-spec =

@@ -20,7 +20,12 @@ size-wrong-requires c κs = search needs
 
 returns-2 : tie.Need-returns-2
 unfolding newOf
-returns-2 c = sym (passed _ _ _ _ (told (c .before .before .before .kind-wrong .ensures) (c .before .before .if1 .left)) ∙ refused _ _ _ _ (told (c .before .size-wrong .ensures) (c .if2 .taken)))
+returns-2 c =
+    let if2 = c .if2 in
+    let size-wrong = c .before .size-wrong in
+    let if1 = c .before .before .if1 in
+    let kind-wrong = c .before .before .before .kind-wrong in
+    sym (passed _ _ _ _ (told (kind-wrong .ensures) (if1 .left)) ∙ refused _ _ _ _ (told (size-wrong .ensures) (if2 .taken)))
 
 shewhart-requires : tie.Need-shewhart-requires
 shewhart-requires c κs = search needs
@@ -28,8 +33,14 @@ shewhart-requires c κs = search needs
 returns-3 : tie.Need-returns-3
 unfolding newOf
 returns-3 c =
-    ap (λ (m : ℕ). (0, record { kind = c .before .before .before .before .before .args .kind; size = c .before .before .before .before .before .args .size; count = 0; set = record { mask = m } })) (c .shewhart .ensures)
-    ∙ sym (passed _ _ _ _ (told (c .before .before .before .before .kind-wrong .ensures) (c .before .before .before .if1 .left)) ∙ passed _ _ _ _ (told (c .before .before .size-wrong .ensures) (c .before .if2 .left)) ∙ none-applies _)
+    let shewhart = c .shewhart in
+    let if2 = c .before .if2 in
+    let size-wrong = c .before .before .size-wrong in
+    let if1 = c .before .before .before .if1 in
+    let kind-wrong = c .before .before .before .before .kind-wrong in
+    let args = c .before .before .before .before .before .args in
+    ap (λ (m : ℕ). (0, record { kind = args .kind; size = args .size; count = 0; set = record { mask = m } })) (shewhart .ensures)
+    ∙ sym (passed _ _ _ _ (told (kind-wrong .ensures) (if1 .left)) ∙ passed _ _ _ _ (told (size-wrong .ensures) (if2 .left)) ∙ none-applies _)
 
 pub new-spec : {M : Type 1} → statement M
 new-spec =

@@ -3,7 +3,7 @@ use mathlib.Core.Path.{sym, ap, _∙_}
 use lib.ListN.{length}
 use lib.Ieee.{Float}
 use Rattle.charts.specs.Limits.{measured}
-use Rattle.charts.specs.Sigma.{sigmaNumber, unlessRefused, sigmaFrom, sigmaHatOf}
+use Rattle.charts.specs.Sigma.{sigmaNumber, sigmaFrom, sigmaHatOf}
 use Rattle.charts.specs.Steps.{surveyed}
 use Rattle.charts.proofs.Held.{own-of}
 use Rattle.charts.proofs.Surveys.{figure-refused, figure-done, number-done, surveyed-right}
@@ -22,18 +22,30 @@ enum-known-mean c = search needs
 
 sigma-from-requires : tie.Need-sigma-from-requires
 sigma-from-requires c κs =
-    let found = sym (ap surveyed (c .before .mean .given .1)) ∙ c .before .before .before .survey .ensures in
-    own-of (c .before .before .before .before .before .args .self) (length (c .before .before .before .before .before .args .values .now)) (surveyed-right (c .before .before .before .before .before .args .self) (c .before .before .before .before .before .args .values .now) (number-done (sigmaNumber (c .before .before .before .before .before .args .self) (c .before .before .before .before .before .args .values .now)) (measured (c .before .before .before .before .before .args .self) (c .before .before .before .before .before .args .values .now) .dispersion .cl) _ found) .0)
+    let mean = c .before .mean in
+    let survey = c .before .before .before .survey in
+    let args = c .before .before .before .before .before .args in
+    let found = sym (ap surveyed (mean .given .1)) ∙ survey .ensures in
+    own-of (args .self) (length (args .values .now)) (surveyed-right (args .self) (args .values .now) (number-done (sigmaNumber (args .self) (args .values .now)) (measured (args .self) (args .values .now) .dispersion .cl) _ found) .0)
 
 returns : tie.Need-returns
 unfolding sigmaHatOf
-returns c = figure-refused (sigmaNumber (c .before .before .before .before .before .args .self) (c .before .before .before .before .before .args .values .now)) (measured (c .before .before .before .before .before .args .self) (c .before .before .before .before .before .args .values .now) .dispersion .cl) (c .before .why .given .1) (c .before .before .before .survey .ensures) _
+returns c =
+    let why = c .before .why in
+    let survey = c .before .before .before .survey in
+    let args = c .before .before .before .before .before .args in
+    figure-refused (sigmaNumber (args .self) (args .values .now)) (measured (args .self) (args .values .now) .dispersion .cl) (why .given .1) (survey .ensures) _
 
 returns-2 : tie.Need-returns-2
 unfolding sigmaHatOf
 returns-2 c =
-    ap (λ (v : Float). (0, v)) (c .sigma-from .ensures)
-    ∙ figure-done (sigmaNumber (c .before .before .before .before .before .before .args .self) (c .before .before .before .before .before .before .args .values .now)) (measured (c .before .before .before .before .before .before .args .self) (c .before .before .before .before .before .before .args .values .now) .dispersion .cl) _ (sym (ap surveyed (c .before .before .mean .given .1)) ∙ c .before .before .before .before .survey .ensures) (sigmaFrom (c .before .before .before .before .before .before .args .self))
+    let sigma-from = c .sigma-from in
+    let mean = c .before .before .mean in
+    let survey = c .before .before .before .before .survey in
+    let args = c .before .before .before .before .before .before .args in
+    ap (λ (v : Float). (0, v)) (sigma-from .ensures)
+    ∙ figure-done (sigmaNumber (args .self) (args .values .now)) (measured (args .self) (args .values .now) .dispersion .cl) _ (sym (ap surveyed (mean .given .1))
+    ∙ survey .ensures) (sigmaFrom (args .self))
 
 pub sigma-hat-spec : {M : Type 1} → statement M
 sigma-hat-spec =

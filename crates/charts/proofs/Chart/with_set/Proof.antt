@@ -17,11 +17,21 @@ returns c = sym (refused _ _ _ _ (told (c .before .own-wrong .ensures) (c .if1 .
 
 returns-2 : tie.Need-returns-2
 unfolding withSetOf
-returns-2 c = sym (passed _ _ _ _ (told (c .before .before .before .own-wrong .ensures) (c .before .before .if1 .left)) ∙ refused _ _ _ _ (lt-ltb 511 (c .before .before .before .before .args .set .mask) (c .if2 .taken)))
+returns-2 c =
+    let if2 = c .if2 in
+    let if1 = c .before .before .if1 in
+    let own-wrong = c .before .before .before .own-wrong in
+    let args = c .before .before .before .before .args in
+    sym (passed _ _ _ _ (told (own-wrong .ensures) (if1 .left)) ∙ refused _ _ _ _ (lt-ltb 511 (args .set .mask) (if2 .taken)))
 
 returns-3 : tie.Need-returns-3
 unfolding withSetOf
-returns-3 c = sym (passed _ _ _ _ (told (c .before .before .before .own-wrong .ensures) (c .before .before .if1 .left)) ∙ passed _ _ _ _ (le-ltb 511 (c .before .before .before .before .args .set .mask) (c .if2 .left)) ∙ none-applies _)
+returns-3 c =
+    let if2 = c .if2 in
+    let if1 = c .before .before .if1 in
+    let own-wrong = c .before .before .before .own-wrong in
+    let args = c .before .before .before .before .args in
+    sym (passed _ _ _ _ (told (own-wrong .ensures) (if1 .left)) ∙ passed _ _ _ _ (le-ltb 511 (args .set .mask) (if2 .left)) ∙ none-applies _)
 
 pub with-set-spec : {M : Type 1} → statement M
 with-set-spec = tie.close (tie.spec own-wrong-requires returns returns-2 returns-3)

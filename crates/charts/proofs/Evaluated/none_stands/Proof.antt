@@ -21,7 +21,10 @@ returns : tie.Need-returns
 returns c = sym (ap (λ (e : Evaluated). evaluated e .noneStands) (c .before .before .self .given .1))
 
 returns-2 : tie.Need-returns-2
-returns-2 c = ap (λ (n : ℕ). eqb n 8) (c .number .ensures) ∙ sym (ap (λ (e : Evaluated). evaluated e .noneStands) (c .before .before .self2 .given .1))
+returns-2 c =
+    let number = c .number in
+    let self2 = c .before .before .self2 in
+    ap (λ (n : ℕ). eqb n 8) (number .ensures) ∙ sym (ap (λ (e : Evaluated). evaluated e .noneStands) (self2 .given .1))
 
 pub none-stands-spec : {M : Type 1} → statement M
 none-stands-spec =

@@ -24,7 +24,13 @@ or-nan-requires c κs = search needs
 
 returns : tie.Need-returns
 unfolding deviationOf
-returns c = rw (c .or-nan .ensures, c .before .root .ensures .1, c .before .before .before .squares .ensures, c .before .before .before .before .mean .ensures, c .before .before .nearest-u64-to-f64 .ensures)
+returns c =
+    let or-nan = c .or-nan in
+    let root = c .before .root in
+    let nearest-u64-to-f64 = c .before .before .nearest-u64-to-f64 in
+    let squares = c .before .before .before .squares in
+    let mean = c .before .before .before .before .mean in
+    rw (or-nan .ensures, root .ensures .1, squares .ensures, mean .ensures, nearest-u64-to-f64 .ensures)
 
 pub deviation-spec : {M : Type 1} → statement M
 deviation-spec =

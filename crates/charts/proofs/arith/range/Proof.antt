@@ -52,9 +52,12 @@ loop-less c = omega arith
 
 loop-again : tie.Need-loop-again Inv-loop μ-loop
 loop-again c =
-    (
-      rw (c .before .before .larger-of .ensures) (fold-more larger nan _ _ _ (c .before .before .before .before .loop-test .taken) (c .before .before .before .before .before .loop .inv .0)),
-      rw (c .smaller-of .ensures) (fold-more smaller nan _ _ _ (c .before .before .before .before .loop-test .taken) (c .before .before .before .before .before .loop .inv .1)),
+    let smaller-of = c .smaller-of in
+    let larger-of = c .before .before .larger-of in
+    let loop-test = c .before .before .before .before .loop-test in
+    let loop = c .before .before .before .before .before .loop in (
+      rw (larger-of .ensures) (fold-more larger nan _ _ _ (loop-test .taken) (loop .inv .0)),
+      rw (smaller-of .ensures) (fold-more smaller nan _ _ _ (loop-test .taken) (loop .inv .1)),
     )
 
 returns : tie.Need-returns Inv-loop μ-loop

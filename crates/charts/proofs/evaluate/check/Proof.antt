@@ -23,16 +23,33 @@ too-few-requires : tie.Need-too-few-requires
 too-few-requires c κs = search needs
 
 returns-2 : tie.Need-returns-2
-returns-2 c = sym (passed _ _ _ _ (told (c .before .before .before .record-wrong .ensures) (c .before .before .if1 .left)) ∙ refused _ _ _ _ (told (c .before .too-few .ensures) (c .if2 .taken)))
+returns-2 c =
+    let if2 = c .if2 in
+    let too-few = c .before .too-few in
+    let if1 = c .before .before .if1 in
+    let record-wrong = c .before .before .before .record-wrong in
+    sym (passed _ _ _ _ (told (record-wrong .ensures) (if1 .left)) ∙ refused _ _ _ _ (told (too-few .ensures) (if2 .taken)))
 
 no-room-requires : tie.Need-no-room-requires
 no-room-requires c κs = some-held (c .before .before .before .before .before .args .c) (told (c .before .too-few .ensures) (c .if2 .left))
 
 returns-3 : tie.Need-returns-3
-returns-3 c = sym (passed _ _ _ _ (told (c .before .before .before .before .before .record-wrong .ensures) (c .before .before .before .before .if1 .left)) ∙ passed _ _ _ _ (told (c .before .before .before .too-few .ensures) (c .before .before .if2 .left)) ∙ refused _ _ _ _ (told (c .before .no-room .ensures) (c .if3 .taken)))
+returns-3 c =
+    let if3 = c .if3 in
+    let no-room = c .before .no-room in
+    let if2 = c .before .before .if2 in
+    let too-few = c .before .before .before .too-few in
+    let if1 = c .before .before .before .before .if1 in
+    let record-wrong = c .before .before .before .before .before .record-wrong in
+    sym (passed _ _ _ _ (told (record-wrong .ensures) (if1 .left)) ∙ passed _ _ _ _ (told (too-few .ensures) (if2 .left))
+    ∙ refused _ _ _ _ (told (no-room .ensures) (if3 .taken)))
 
 mul-end : tie.Need-mul-end
-mul-end c = omega (arith, held (c .before .before .before .before .before .before .before .before .args .c) (length (c .before .before .before .before .before .before .before .before .args .values .now)) (told (c .before .before .before .before .before .before .record-wrong .ensures) (c .before .before .before .before .before .if1 .left)) .figures .all)
+mul-end c =
+    let if1 = c .before .before .before .before .before .if1 in
+    let record-wrong = c .before .before .before .before .before .before .record-wrong in
+    let args = c .before .before .before .before .before .before .before .before .args in
+    omega (arith, held (args .c) (length (args .values .now)) (told (record-wrong .ensures) (if1 .left)) .figures .all)
 
 sub-all-finite : tie.Need-sub-all-finite
 sub-all-finite c = search needs
@@ -41,16 +58,44 @@ part-all-finite-start : tie.Need-part-all-finite-start
 part-all-finite-start c = search needs
 
 part-all-finite-end : tie.Need-part-all-finite-end
-part-all-finite-end c = held (c .before .before .before .before .before .before .before .before .args .c) (length (c .before .before .before .before .before .before .before .before .args .values .now)) (told (c .before .before .before .before .before .before .record-wrong .ensures) (c .before .before .before .before .before .if1 .left)) .within
+part-all-finite-end c =
+    let if1 = c .before .before .before .before .before .if1 in
+    let record-wrong = c .before .before .before .before .before .before .record-wrong in
+    let args = c .before .before .before .before .before .before .before .before .args in
+    held (args .c) (length (args .values .now)) (told (record-wrong .ensures) (if1 .left)) .within
 
 all-finite-requires : tie.Need-all-finite-requires
 all-finite-requires c κs = search needs
 
 returns-4 : tie.Need-returns-4
-returns-4 c = sym (passed _ _ _ _ (told (c .before .before .before .before .before .before .before .before .before .record-wrong .ensures) (c .before .before .before .before .before .before .before .before .if1 .left)) ∙ passed _ _ _ _ (told (c .before .before .before .before .before .before .before .too-few .ensures) (c .before .before .before .before .before .before .if2 .left)) ∙ passed _ _ _ _ (told (c .before .before .before .before .before .no-room .ensures) (c .before .before .before .before .if3 .left)) ∙ refused _ _ _ _ (told-not (c .before .all-finite .ensures ∙ ap (λ (n : ℕ). allFinite (take n (c .before .before .before .before .before .before .before .before .before .before .before .args .values .now))) (sub-zero (c .before .before .before .before .before .before .before .before .before .before .before .args .c .count * c .before .before .before .before .before .before .before .before .before .before .before .args .c .size))) (c .if4 .taken)))
+returns-4 c =
+    let if4 = c .if4 in
+    let all-finite = c .before .all-finite in
+    let if3 = c .before .before .before .before .if3 in
+    let no-room = c .before .before .before .before .before .no-room in
+    let if2 = c .before .before .before .before .before .before .if2 in
+    let too-few = c .before .before .before .before .before .before .before .too-few in
+    let if1 = c .before .before .before .before .before .before .before .before .if1 in
+    let record-wrong = c .before .before .before .before .before .before .before .before .before .record-wrong in
+    let args = c .before .before .before .before .before .before .before .before .before .before .before .args in
+    sym (passed _ _ _ _ (told (record-wrong .ensures) (if1 .left)) ∙ passed _ _ _ _ (told (too-few .ensures) (if2 .left))
+    ∙ passed _ _ _ _ (told (no-room .ensures) (if3 .left)) ∙ refused _ _ _ _ (told-not (all-finite .ensures
+    ∙ ap (λ (n : ℕ). allFinite (take n (args .values .now))) (sub-zero (args .c .count * args .c .size))) (if4 .taken)))
 
 returns-5 : tie.Need-returns-5
-returns-5 c = sym (passed _ _ _ _ (told (c .before .before .before .before .before .before .before .before .before .record-wrong .ensures) (c .before .before .before .before .before .before .before .before .if1 .left)) ∙ passed _ _ _ _ (told (c .before .before .before .before .before .before .before .too-few .ensures) (c .before .before .before .before .before .before .if2 .left)) ∙ passed _ _ _ _ (told (c .before .before .before .before .before .no-room .ensures) (c .before .before .before .before .if3 .left)) ∙ passed _ _ _ _ (told-not (c .before .all-finite .ensures ∙ ap (λ (n : ℕ). allFinite (take n (c .before .before .before .before .before .before .before .before .before .before .before .args .values .now))) (sub-zero (c .before .before .before .before .before .before .before .before .before .before .before .args .c .count * c .before .before .before .before .before .before .before .before .before .before .before .args .c .size))) (c .if4 .left)) ∙ none-applies _)
+returns-5 c =
+    let if4 = c .if4 in
+    let all-finite = c .before .all-finite in
+    let if3 = c .before .before .before .before .if3 in
+    let no-room = c .before .before .before .before .before .no-room in
+    let if2 = c .before .before .before .before .before .before .if2 in
+    let too-few = c .before .before .before .before .before .before .before .too-few in
+    let if1 = c .before .before .before .before .before .before .before .before .if1 in
+    let record-wrong = c .before .before .before .before .before .before .before .before .before .record-wrong in
+    let args = c .before .before .before .before .before .before .before .before .before .before .before .args in
+    sym (passed _ _ _ _ (told (record-wrong .ensures) (if1 .left)) ∙ passed _ _ _ _ (told (too-few .ensures) (if2 .left))
+    ∙ passed _ _ _ _ (told (no-room .ensures) (if3 .left)) ∙ passed _ _ _ _ (told-not (all-finite .ensures
+    ∙ ap (λ (n : ℕ). allFinite (take n (args .values .now))) (sub-zero (args .c .count * args .c .size))) (if4 .left)) ∙ none-applies _)
 
 pub check-spec : {M : Type 1} → statement M
 check-spec =

@@ -9,8 +9,8 @@ mark-requires c κs = search needs
 mark-requires-2 : tie.Need-mark-requires-2
 mark-requires-2 c κs = search needs
 
-add-t15 : tie.Need-add-t15
-add-t15 c = search needs
+add-marks : tie.Need-add-marks
+add-marks c = search needs
 
 same-length : tie.Need-same-length
 same-length c = search needs
@@ -19,8 +19,11 @@ same-length-2 : tie.Need-same-length-2
 same-length-2 c = search needs
 
 returns : tie.Need-returns
-returns c = (rw (c .before .before .before .before .before .before .mark .ensures .0 .0, c .before .before .mark2 .ensures .0 .0), (c .before .before .before .before .before .before .mark .ensures .1, c .before .before .mark2 .ensures .1))
+returns c =
+    let mark2 = c .before .before .mark2 in
+    let mark = c .before .before .before .before .before .before .mark in
+    (rw (mark .ensures .0 .0, mark2 .ensures .0 .0), (mark .ensures .1, mark2 .ensures .1))
 
 pub mark-both-spec : {M : Type 1} → statement M
 mark-both-spec =
-    tie.close (tie.spec mark-requires mark-requires-2 add-t15 same-length same-length-2 returns)
+    tie.close (tie.spec mark-requires mark-requires-2 add-marks same-length same-length-2 returns)

@@ -16,10 +16,14 @@ points-in-requires-2 : tie.Need-points-in-requires-2
 points-in-requires-2 c κs = c .before .before .before .before .pre .1
 
 fill-requires : tie.Need-fill-requires
-fill-requires c κs = (c .before .before .before .before .before .before .pre .0, c .before .before .before .before .before .before .pre .1, omega arith, c .before .before .before .before .before .before .pre .2)
+fill-requires c κs =
+    let pre = c .before .before .before .before .before .before .pre in
+    (pre .0, pre .1, omega arith, pre .2)
 
 fill-requires-2 : tie.Need-fill-requires-2
-fill-requires-2 c κs = (c .before .before .before .before .before .before .before .before .before .before .pre .0, c .before .before .before .before .before .before .before .before .before .before .pre .1, omega arith, c .before .before .before .before .before .before .before .before .before .before .pre .3)
+fill-requires-2 c κs =
+    let pre = c .before .before .before .before .before .before .before .before .before .before .pre in
+    (pre .0, pre .1, omega arith, pre .3)
 
 sub-limits-of : tie.Need-sub-limits-of
 sub-limits-of c = search needs
@@ -28,7 +32,12 @@ part-limits-of-start : tie.Need-part-limits-of-start
 part-limits-of-start c = search needs
 
 part-limits-of-end : tie.Need-part-limits-of-end
-part-limits-of-end c = omega (arith, c .before .before .before .before .before .before .before .before .before .before .points-in .ensures, c .before .before .before .before .before .before .before .before .before .before .before .before .before .before .pre .2, c .before .before .before .before .before .before .before .fill .kept)
+part-limits-of-end c =
+    let fill = c .before .before .before .before .before .before .before .fill in
+    let points-in = c .before .before .before .before .before .before .before .before .before .before .points-in in
+    let back = c .before .before .before .before .before .before .before .before .before .before .before .before .before in
+    let pre = back .before .pre in
+    omega (arith, points-in .ensures, pre .2, fill .kept)
 
 sub-limits-of-2 : tie.Need-sub-limits-of-2
 sub-limits-of-2 c = search needs
@@ -37,10 +46,19 @@ part-limits-of-start-2 : tie.Need-part-limits-of-start-2
 part-limits-of-start-2 c = search needs
 
 part-limits-of-end-2 : tie.Need-part-limits-of-end-2
-part-limits-of-end-2 c = omega (arith, c .before .before .before .before .before .before .before .before .before .before .before .points-in2 .ensures, c .before .before .before .before .before .before .before .before .before .before .before .before .before .before .before .before .pre .3, c .before .before .before .before .before .fill2 .kept)
+part-limits-of-end-2 c =
+    let fill2 = c .before .before .before .before .before .fill2 in
+    let points-in2 = c .before .before .before .before .before .before .before .before .before .before .before .points-in2 in
+    let back = c .before .before .before .before .before .before .before .before .before .before .before .before .before in
+    let pre = back .before .before .before .pre in
+    omega (arith, points-in2 .ensures, pre .3, fill2 .kept)
 
 limits-of-requires : tie.Need-limits-of-requires
-limits-of-requires c κs = own-of (c .before .before .before .before .before .before .before .before .before .before .before .before .before .before .before .before .before .args .c) (length (c .before .before .before .before .before .before .before .before .before .before .before .before .before .before .before .before .before .args .values .now)) (c .before .before .before .before .before .before .before .before .before .before .before .before .before .before .before .before .before .pre .0)
+limits-of-requires c κs =
+    let back = c .before .before .before .before .before .before .before .before .before .before .before .before .before in
+    let args = back .before .before .before .before .args in
+    let pre = back .before .before .before .before .pre in
+    own-of (args .c) (length (args .values .now)) (pre .0)
 
 same-length : tie.Need-same-length
 same-length c = search needs
@@ -51,9 +69,16 @@ same-length-2 c = search needs
 returns : tie.Need-returns
 unfolding measured
 returns c =
-    (
-      c .limits-of .ensures ∙ ap₂ (measuredOf (c .before .before .before .before .before .before .before .before .before .before .before .before .before .before .before .before .before .before .args .c)) (front-series (c .before .before .before .before .before .before .before .before .before .before .before .before .before .before .before .before .before .before .args .c) 0 (c .before .before .before .before .before .before .before .before .before .before .before .before .before .before .before .before .before .before .args .values .now) (c .before .before .before .before .before .before .before .before .before .before .before .before .before .before .points-in .result) (c .before .before .before .before .before .before .before .before .before .before .before .before .before .before .before .before .before .before .args .main .now) _ (c .before .before .before .before .before .before .before .before .before .before .before .before .before .before .points-in .ensures) (c .before .before .before .before .before .before .before .before .before .before .before .fill .ensures)) (front-series (c .before .before .before .before .before .before .before .before .before .before .before .before .before .before .before .before .before .before .args .c) 1 (c .before .before .before .before .before .before .before .before .before .before .before .before .before .before .before .before .before .before .args .values .now) (c .before .before .before .before .before .before .before .before .before .before .before .before .before .points-in2 .result) (c .before .before .before .before .before .before .before .before .before .before .before .before .before .before .before .before .before .before .args .dispersion .now) _ (c .before .before .before .before .before .before .before .before .before .before .before .before .before .points-in2 .ensures) (c .before .before .before .before .before .before .before .fill2 .ensures)),
-      (c .before .before .before .before .before .before .before .before .before .before .before .fill .ensures, c .before .before .before .before .before .before .before .fill2 .ensures),
+    let limits-of = c .limits-of in
+    let fill2 = c .before .before .before .before .before .before .before .fill2 in
+    let fill = c .before .before .before .before .before .before .before .before .before .before .before .fill in
+    let points-in2 = c .before .before .before .before .before .before .before .before .before .before .before .before .before .points-in2 in
+    let back = c .before .before .before .before .before .before .before .before .before .before .before .before .before in
+    let points-in = back .before .points-in in
+    let args = back .before .before .before .before .before .args in (
+      limits-of .ensures
+          ∙ ap₂ (measuredOf (args .c)) (front-series (args .c) 0 (args .values .now) (points-in .result) (args .main .now) _ (points-in .ensures) (fill .ensures)) (front-series (args .c) 1 (args .values .now) (points-in2 .result) (args .dispersion .now) _ (points-in2 .ensures) (fill2 .ensures)),
+      (fill .ensures, fill2 .ensures),
     )
 
 pub measure-spec : {M : Type 1} → statement M

@@ -28,7 +28,13 @@ same-length-4 : tie.Need-same-length-4
 same-length-4 c = search needs
 
 returns : tie.Need-returns
-returns c = (c .before .before .before .before .before .before .before .before .before .before .before .before .before .before .zero-points .ensures, (c .before .before .before .before .before .before .before .before .before .before .zero-points2 .ensures, (c .before .before .before .before .before .before .zero-marks .ensures, c .before .before .zero-marks2 .ensures)))
+returns c =
+    let zero-marks2 = c .before .before .zero-marks2 in
+    let zero-marks = c .before .before .before .before .before .before .zero-marks in
+    let zero-points2 = c .before .before .before .before .before .before .before .before .before .before .zero-points2 in
+    let back = c .before .before .before .before .before .before .before .before .before .before .before .before .before in
+    let zero-points = back .before .zero-points in
+    (zero-points .ensures, (zero-points2 .ensures, (zero-marks .ensures, zero-marks2 .ensures)))
 
 pub zero-all-spec : {M : Type 1} → statement M
 zero-all-spec =

@@ -18,7 +18,12 @@ finite-limits-requires-2 c κs = search needs
 
 returns : tie.Need-returns
 unfolding limitsFrom
-returns c = rw (c .before .finite-limits .ensures, c .finite-limits2 .ensures, c .before .before .before .main-limits .ensures, c .before .before .dispersion-limits .ensures)
+returns c =
+    let finite-limits2 = c .finite-limits2 in
+    let finite-limits = c .before .finite-limits in
+    let dispersion-limits = c .before .before .dispersion-limits in
+    let main-limits = c .before .before .before .main-limits in
+    rw (finite-limits .ensures, finite-limits2 .ensures, main-limits .ensures, dispersion-limits .ensures)
 
 pub limits-from-spec : {M : Type 1} → statement M
 limits-from-spec =

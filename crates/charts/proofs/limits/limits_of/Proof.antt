@@ -21,7 +21,13 @@ limits-from-requires c κs = search needs
 
 returns : tie.Need-returns
 unfolding measuredOf
-returns c = rw (c .limits-from .ensures, c .before .before .mean .ensures, c .before .mean2 .ensures, c .before .before .before .before .all-finite .ensures, c .before .before .before .all-finite2 .ensures)
+returns c =
+    let limits-from = c .limits-from in
+    let mean2 = c .before .mean2 in
+    let mean = c .before .before .mean in
+    let all-finite2 = c .before .before .before .all-finite2 in
+    let all-finite = c .before .before .before .before .all-finite in
+    rw (limits-from .ensures, mean .ensures, mean2 .ensures, all-finite .ensures, all-finite2 .ensures)
 
 pub limits-of-spec : {M : Type 1} → statement M
 limits-of-spec =

@@ -1,5 +1,5 @@
 -- `marks::count` meets its contract: what is counted and what is left give the whole. Assumes nothing.
-use mathlib.Core.Path.{_≡_, refl}
+use mathlib.Core.Path.{_≡_}
 use Prim.Native.Nat.{_+_, _-_, _*_, _≤_}
 use native.Mathlib.Omega.{arith}
 use native.Mathlib.Nat.{zero-add}
@@ -43,10 +43,18 @@ loop-less : tie.Need-loop-less Inv-loop μ-loop
 loop-less c = search needs
 
 loop-again : tie.Need-loop-again Inv-loop μ-loop
-loop-again c = (omega arith, omega (arith, bound c), count-more (c .before .before .before .args .marks .now) (c .before .before .loop .i) (c .before .before .loop .n) (c .before .loop-test .taken) (c .before .before .loop .inv .2))
+loop-again c =
+    let loop-test = c .before .loop-test in
+    let loop = c .before .before .loop in
+    let args = c .before .before .before .args in
+    (omega arith, omega (arith, bound c), count-more (args .marks .now) (loop .i) (loop .n) (loop-test .taken) (loop .inv .2))
 
 returns : tie.Need-returns Inv-loop μ-loop
-returns c = (count-done (c .before .before .args .marks .now) (c .before .loop .i) (c .before .loop .n) (c .loop-test .left) (c .before .loop .inv .2), omega arith)
+returns c =
+    let loop-test = c .loop-test in
+    let loop = c .before .loop in
+    let args = c .before .before .args in
+    (count-done (args .marks .now) (loop .i) (loop .n) (loop-test .left) (loop .inv .2), omega arith)
 
 pub count-spec : {M : Type 1} → statement M
 count-spec =

@@ -21,20 +21,31 @@ part-count-start : tie.Need-part-count-start
 part-count-start c = search needs
 
 part-count-end : tie.Need-part-count-end
-part-count-end c = omega (arith, fine (c .before .before .before .before .before .before .before) .wide, c .before .before .before .mark .kept)
+part-count-end c =
+    let mark = c .before .before .before .mark in
+    let start = c .before .before .before .before .before .before .before in
+    omega (arith, fine start .wide, mark .kept)
 
 count-requires : tie.Need-count-requires
-count-requires c κs = front-few (length (c .before .before .before .before .before .before .before .before .args .points .now)) (c .before .before .before .before .mark .last .1 .1 .1 .0) (fine (c .before .before .before .before .before .before .before .before) .few)
+count-requires c κs =
+    let mark = c .before .before .before .before .mark in
+    let args = c .before .before .before .before .before .before .before .before .args in
+    let start = c .before .before .before .before .before .before .before .before in
+    front-few (length (args .points .now)) (mark .last .1 .1 .1 .0) (fine start .few)
 
 same-length : tie.Need-same-length
 same-length c = search needs
 
 returns : tie.Need-returns
 returns c =
-    let s = c .before .before .before .before .before .before .before .before .before .args in
-    let marked = c .before .before .before .before .before .mark .ensures .1 in (
-      (marks-counted (s .limits) (s .set .mask) (s .points .now) (s .marks .now) (c .before .before .before .before .before .before .before .before .before .pre) marked (c .count .ensures .0), c .count .ensures .1),
-      marked ∙ marks-written (s .limits) (s .set .mask) (s .points .now) (s .marks .now) (c .before .before .before .before .before .before .before .before .before .pre),
+    let count = c .count in
+    let mark = c .before .before .before .before .before .mark in
+    let args = c .before .before .before .before .before .before .before .before .before .args in
+    let pre = c .before .before .before .before .before .before .before .before .before .pre in
+    let s = args in
+    let marked = mark .ensures .1 in (
+      (marks-counted (s .limits) (s .set .mask) (s .points .now) (s .marks .now) (pre) marked (count .ensures .0), count .ensures .1),
+      marked ∙ marks-written (s .limits) (s .set .mask) (s .points .now) (s .marks .now) (pre),
     )
 
 pub mark-spec : {M : Type 1} → statement M

@@ -1,6 +1,5 @@
 -- `series::individual` meets its contract, by series. Assumes nothing.
 use mathlib.Core.Path.{sym, _∙_}
-use native.Mathlib.Omega.{arith}
 use Rattle.charts.specs.Series.{individualAt}
 use Rattle.charts.proofs.Cases.{series-0, series-1}
 use borrow.Author.Needs.{needs}
@@ -37,7 +36,11 @@ moving-requires c κs = search needs
 
 returns-2 : tie.Need-returns-2
 unfolding individualAt
-returns-2 c = c .moving .ensures ∙ sym (series-1 (c .before .before .before .before .before .args .series) _ _ (c .before .before .before .if1 .left))
+returns-2 c =
+    let moving = c .moving in
+    let if1 = c .before .before .before .if1 in
+    let args = c .before .before .before .before .before .args in
+    moving .ensures ∙ sym (series-1 (args .series) _ _ (if1 .left))
 
 pub individual-spec : {M : Type 1} → statement M
 individual-spec =

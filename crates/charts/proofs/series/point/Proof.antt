@@ -11,10 +11,18 @@ sample : (c : tie.Start) → Reach (c .args .c) (length (c .args .values .now)) 
 sample c = reach (c .args .c) (c .args .series) (length (c .args .values .now)) (c .args .i) (c .pre .0) (c .pre .2)
 
 individual-requires : tie.Need-individual-requires
-individual-requires c κs = (single-reach (c .before .before .before .args .c) (c .before .before .before .args .series) (length (c .before .before .before .args .values .now)) (c .before .before .before .args .i) (c .before .before .before .pre .0) (c .before .before .before .pre .1) (c .before .before .before .pre .2) (c .if1 .taken), c .before .before .before .pre .1)
+individual-requires c κs =
+    let if1 = c .if1 in
+    let args = c .before .before .before .args in
+    let pre = c .before .before .before .pre in
+    (single-reach (args .c) (args .series) (length (args .values .now)) (args .i) (pre .0) (pre .1) (pre .2) (if1 .taken), pre .1)
 
 returns : tie.Need-returns
-returns c = point-1 (c .before .before .before .before .args .c) (c .before .before .before .before .args .series) (c .before .before .before .before .args .values .now) (c .before .before .before .before .args .i) (c .before .if1 .taken) (c .individual .ensures)
+returns c =
+    let individual = c .individual in
+    let if1 = c .before .if1 in
+    let args = c .before .before .before .before .args in
+    point-1 (args .c) (args .series) (args .values .now) (args .i) (if1 .taken) (individual .ensures)
 
 mul-at : tie.Need-mul-at
 mul-at c = omega (arith, sample (c .before .before .before .before))
@@ -35,16 +43,32 @@ part-sample-end : tie.Need-part-sample-end
 part-sample-end c = omega (arith, sample (c .before .before .before .before .before))
 
 range-point-requires : tie.Need-range-point-requires
-range-point-requires c κs = cut-some (c .before .before .before .before .before .before .before .before .args .c) (c .before .before .before .before .before .before .before .before .args .values .now) (c .before .before .before .before .before .before .before .before .args .i) (sample (c .before .before .before .before .before .before .before .before))
+range-point-requires c κs =
+    let args = c .before .before .before .before .before .before .before .before .args in
+    let start = c .before .before .before .before .before .before .before .before in
+    cut-some (args .c) (args .values .now) (args .i) (sample start)
 
 returns-2 : tie.Need-returns-2
-returns-2 c = point-2 (c .before .before .before .before .before .before .before .before .before .args .c) (c .before .before .before .before .before .before .before .before .before .args .series) (c .before .before .before .before .before .before .before .before .before .args .values .now) (c .before .before .before .before .before .before .before .before .before .args .i) (c .before .before .before .before .before .before .if1 .left) (c .before .if2 .taken) (c .range-point .ensures)
+returns-2 c =
+    let range-point = c .range-point in
+    let if2 = c .before .if2 in
+    let if1 = c .before .before .before .before .before .before .if1 in
+    let args = c .before .before .before .before .before .before .before .before .before .args in
+    point-2 (args .c) (args .series) (args .values .now) (args .i) (if1 .left) (if2 .taken) (range-point .ensures)
 
 deviation-point-requires : tie.Need-deviation-point-requires
-deviation-point-requires c κs = cut-some (c .before .before .before .before .before .before .before .before .args .c) (c .before .before .before .before .before .before .before .before .args .values .now) (c .before .before .before .before .before .before .before .before .args .i) (sample (c .before .before .before .before .before .before .before .before))
+deviation-point-requires c κs =
+    let args = c .before .before .before .before .before .before .before .before .args in
+    let start = c .before .before .before .before .before .before .before .before in
+    cut-some (args .c) (args .values .now) (args .i) (sample start)
 
 returns-3 : tie.Need-returns-3
-returns-3 c = point-3 (c .before .before .before .before .before .before .before .before .before .args .c) (c .before .before .before .before .before .before .before .before .before .args .series) (c .before .before .before .before .before .before .before .before .before .args .values .now) (c .before .before .before .before .before .before .before .before .before .args .i) (c .before .before .before .before .before .before .if1 .left) (c .before .if2 .left) (c .deviation-point .ensures)
+returns-3 c =
+    let deviation-point = c .deviation-point in
+    let if2 = c .before .if2 in
+    let if1 = c .before .before .before .before .before .before .if1 in
+    let args = c .before .before .before .before .before .before .before .before .before .args in
+    point-3 (args .c) (args .series) (args .values .now) (args .i) (if1 .left) (if2 .left) (deviation-point .ensures)
 
 pub point-spec : {M : Type 1} → statement M
 point-spec =

@@ -1,5 +1,5 @@
 -- `sigma::df_of` meets its contract, by kind. Assumes nothing.
-use mathlib.Core.Path.{sym, _∙_}
+use mathlib.Core.Path.{sym}
 use native.Mathlib.Omega.{arith}
 use lib.Ieee.{ofBits, round}
 use Rattle.charts.specs.Sigma.{dfOf}
@@ -17,13 +17,21 @@ nearest-u64-to-f64-requires c κs = search needs
 
 returns : tie.Need-returns
 unfolding dfOf ofBits round
-returns c = rw (c .nearest-u64-to-f64 .ensures) (sym (kind-1 (c .before .before .before .before .args .c .kind) _ _ _ (c .before .before .if1 .taken)))
+returns c =
+    let nearest-u64-to-f64 = c .nearest-u64-to-f64 in
+    let if1 = c .before .before .if1 in
+    let args = c .before .before .before .before .args in
+    rw (nearest-u64-to-f64 .ensures) (sym (kind-1 (args .c .kind) _ _ _ (if1 .taken)))
 
 nearest-u64-to-f64-requires-2 : tie.Need-nearest-u64-to-f64-requires-2
 nearest-u64-to-f64-requires-2 c κs = search needs
 
 factor-requires : tie.Need-factor-requires
-factor-requires c κs = let size = column (c .before .before .before .before .before .args .c) (c .before .before .before .before .before .pre .0) (c .before .before .before .if1 .left) in (omega arith, size .0, size .1)
+factor-requires c κs =
+    let if1 = c .before .before .before .if1 in
+    let args = c .before .before .before .before .before .args in
+    let pre = c .before .before .before .before .before .pre in
+    let size = column (args .c) (pre .0) (if1 .left) in (omega arith, size .0, size .1)
 
 range-cv2-requires : tie.Need-range-cv2-requires
 range-cv2-requires c κs = search needs
@@ -34,11 +42,22 @@ equivalent-df-requires c κs = search needs
 returns-2 : tie.Need-returns-2
 unfolding dfOf
 returns-2 c =
-    rw (c .equivalent-df .ensures, c .before .range-cv2 .ensures, c .before .before .factor .ensures, c .before .before .before .before .before .nearest-u64-to-f642 .ensures)
-    (sym (kind-2 (c .before .before .before .before .before .before .before .before .args .c .kind) _ _ _ (c .before .before .before .before .before .before .if1 .left) (c .before .before .before .if2 .taken)))
+    let equivalent-df = c .equivalent-df in
+    let range-cv2 = c .before .range-cv2 in
+    let factor = c .before .before .factor in
+    let if2 = c .before .before .before .if2 in
+    let nearest-u64-to-f642 = c .before .before .before .before .before .nearest-u64-to-f642 in
+    let if1 = c .before .before .before .before .before .before .if1 in
+    let args = c .before .before .before .before .before .before .before .before .args in
+    rw (equivalent-df .ensures, range-cv2 .ensures, factor .ensures, nearest-u64-to-f642 .ensures)
+    (sym (kind-2 (args .c .kind) _ _ _ (if1 .left) (if2 .taken)))
 
 factor-requires-2 : tie.Need-factor-requires-2
-factor-requires-2 c κs = let size = column (c .before .before .before .before .before .args .c) (c .before .before .before .before .before .pre .0) (c .before .before .before .if1 .left) in (omega arith, size .0, size .1)
+factor-requires-2 c κs =
+    let if1 = c .before .before .before .if1 in
+    let args = c .before .before .before .before .before .args in
+    let pre = c .before .before .before .before .before .pre in
+    let size = column (args .c) (pre .0) (if1 .left) in (omega arith, size .0, size .1)
 
 deviation-cv2-requires : tie.Need-deviation-cv2-requires
 deviation-cv2-requires c κs = search needs
@@ -49,8 +68,15 @@ equivalent-df-requires-2 c κs = search needs
 returns-3 : tie.Need-returns-3
 unfolding dfOf
 returns-3 c =
-    rw (c .equivalent-df2 .ensures, c .before .deviation-cv2 .ensures, c .before .before .factor2 .ensures, c .before .before .before .before .before .nearest-u64-to-f642 .ensures)
-    (sym (kind-3 (c .before .before .before .before .before .before .before .before .args .c .kind) _ _ _ (c .before .before .before .before .before .before .if1 .left) (c .before .before .before .if2 .left)))
+    let equivalent-df2 = c .equivalent-df2 in
+    let deviation-cv2 = c .before .deviation-cv2 in
+    let factor2 = c .before .before .factor2 in
+    let if2 = c .before .before .before .if2 in
+    let nearest-u64-to-f642 = c .before .before .before .before .before .nearest-u64-to-f642 in
+    let if1 = c .before .before .before .before .before .before .if1 in
+    let args = c .before .before .before .before .before .before .before .before .args in
+    rw (equivalent-df2 .ensures, deviation-cv2 .ensures, factor2 .ensures, nearest-u64-to-f642 .ensures)
+    (sym (kind-3 (args .c .kind) _ _ _ (if1 .left) (if2 .left)))
 
 pub df-of-spec : {M : Type 1} → statement M
 df-of-spec =

@@ -27,9 +27,11 @@ part-dispersion-end c = search needs
 
 measure-requires : tie.Need-measure-requires
 measure-requires c κs =
-    let a = c .before .before .before .args in
-    let few = held (a .c) (length (a .values .now)) (c .before .before .before .pre .0) .figures .few in
-    (c .before .before .before .pre .0, c .before .before .before .pre .1, omega (arith, few, points-most (a .c) 0), omega (arith, few, points-most (a .c) 1))
+    let args = c .before .before .before .args in
+    let pre = c .before .before .before .pre in
+    let a = args in
+    let few = held (a .c) (length (a .values .now)) (pre .0) .figures .few in
+    (pre .0, pre .1, omega (arith, few, points-most (a .c) 0), omega (arith, few, points-most (a .c) 1))
 
 returns : tie.Need-returns
 returns c = c .before .before .measure .ensures .0

@@ -1,9 +1,6 @@
 -- `sigma::survey` meets its contract: refused ahead of the arithmetic, or what the limits say. Assumes nothing.
-use mathlib.Core.Path.{_≡_, sym, ap, _∙_}
-use Prim.Native.Nat.{ℕ}
-use Rattle.laws.specs.Refusals.{firstOf}
+use mathlib.Core.Path.{sym, ap, _∙_}
 use Rattle.charts.specs.Limits.{measured}
-use Rattle.charts.specs.Evaluating.{aheadOf7}
 use Rattle.charts.specs.Steps.{tested}
 use Rattle.charts.proofs.Outcomes.{Ahead, ahead}
 use Rattle.charts.proofs.Surveys.{survey-refused, survey-passed}
@@ -31,11 +28,19 @@ centre-requires c κs = search needs
 
 returns : tie.Need-returns
 returns c =
-    survey-refused (c .before .before .before .before .before .args .c) (c .before .before .before .before .before .args .values .now) (c .before .why .given .1) (c .before .before .before .check .ensures)
-    (measured (c .before .before .before .before .before .args .c) (c .before .before .before .before .before .args .values .now) .dispersion .cl)
+    let why = c .before .why in
+    let check = c .before .before .before .check in
+    let args = c .before .before .before .before .before .args in
+    survey-refused (args .c) (args .values .now) (why .given .1) (check .ensures)
+    (measured (args .c) (args .values .now) .dispersion .cl)
 
 returns-2 : tie.Need-returns-2
-returns-2 c = c .centre .ensures ∙ survey-passed (c .before .before .before .before .before .before .args .c) (c .before .before .before .before .before .before .args .values .now) (fine (c .before .before)) (c .before .measure .ensures)
+returns-2 c =
+    let centre = c .centre in
+    let measure = c .before .measure in
+    let after-enum-told = c .before .before in
+    let args = c .before .before .before .before .before .before .args in
+    centre .ensures ∙ survey-passed (args .c) (args .values .now) (fine (after-enum-told)) (measure .ensures)
 
 pub survey-spec : {M : Type 1} → statement M
 survey-spec =
