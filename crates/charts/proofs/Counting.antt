@@ -66,7 +66,8 @@ front-few n l h = omega (arith, length-take (n - 0) l)
 module _ (limits : Limits) (set : ℕ) (values : List Float) (old : List ℕ) (accepted : answerOf limits set values (length old) ≡ 0) where
   pub marks-written : marksAfter limits set values old ≡ atFront (marksOf limits set values) old
   unfolding marksAfter
-  marks-written = ap (λ (b : Bool). cond b (atFront (marksOf limits set values) old) old) (eq-eqb (answerOf limits set values (length old)) 0 accepted)
+  marks-written =
+      ap (λ (b : Bool). cond b (atFront (marksOf limits set values) old) old) (eq-eqb (answerOf limits set values (length old)) 0 accepted)
 
   pub marks-counted : {n : ℕ} {now : List ℕ} → now ≡ marksAfter limits set values old → n ≡ onesIn (take (length values - 0) now)
       → n ≡ numberOf (marksOf limits set values)

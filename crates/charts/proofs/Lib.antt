@@ -1,4 +1,5 @@
 -- The laws of the charts, each file after those that it cites.
+pub mod Answers
 mod Folds
 mod Signs
 mod Cases
@@ -8,3 +9,4 @@ mod Appending
 mod Counting
 mod Outcomes
 mod Surveys
+pub mod Examples

@@ -23,32 +23,21 @@ use Rattle.rules.specs.Marking as marking
 use Rattle.rules.proofs.Accepted.{accepts}
 use Rattle.charts.specs.declared.Chart.{Chart}
 use Rattle.charts.specs.declared.Refusal.{Refusal}
-use Rattle.charts.specs.declared.Refusal.the-variants as refusing
 use Rattle.charts.specs.declared.limits.Measured.{Measured}
 use Rattle.charts.specs.declared.evaluate.Tested.{Tested}
 use Rattle.charts.specs.declared.evaluate.Tested.the-variants as testing
 use Rattle.charts.specs.Records.{number, recordWrong}
 use Rattle.charts.specs.Series.{bySeries, pointAt, pointsIn, seriesOf}
 use Rattle.charts.specs.Limits.{limitsFrom, measuredOf, measured}
-use Rattle.charts.specs.Evaluating.{answerDone, answerRefused, tooFew, noRoom, storedIn, aheadOf7, at7, seriesMarks, numberOf, doneOf, answerOf, evaluateOf, lentAfter}
+use Rattle.charts.specs.Evaluating.{answerDone, answerRefused, tooFew, noRoom, storedIn, aheadOf7, at7}
+use Rattle.charts.specs.Evaluating.{seriesMarks, numberOf, doneOf, answerOf, evaluateOf, lentAfter}
 use Rattle.charts.specs.Steps.{tested}
+use Rattle.charts.proofs.Answers.{number-some}
 use Rattle.charts.proofs.Cases.{kind-1, subgroups, or-left, or-right}
 use Rattle.charts.proofs.Held.{held}
 use Rattle.charts.proofs.Points.{points-most}
 
 -- ---- refusals
-
--- no refusal's number is 0
-pub number-some : (why : Refusal) → number why ≡ 0 → ⊥
-number-some refusing.Size e = omega arith
-number-some refusing.Length e = omega arith
-number-some refusing.NotFinite e = omega arith
-number-some refusing.Set e = omega arith
-number-some refusing.Full e = omega arith
-number-some refusing.TooShort e = omega arith
-number-some refusing.Overflow e = omega arith
-number-some refusing.TooFew e = omega arith
-number-some refusing.Record e = omega arith
 
 -- what is refused ahead of more tests is refused with them
 extended : (cs more : List (Bool × ℕ)) → (firstOf cs 0 ≡ 0 → ⊥) → firstOf (cs ++ more) 0 ≡ firstOf cs 0
@@ -139,19 +128,25 @@ module _ (c : Chart) (values : List Float) (a b x y : ℕ) where
     answer-refused =
         let all : firstOf (aheadOf7 c values a b x y ++ at7 c values) 0 ≡ number why =
         extended (aheadOf7 c values a b x y) (at7 c values) (λ z. number-some why (e ∙ z)) ∙ sym e in
-        sym (ap (λ (n : ℕ). answerOf n c values) all ∙ ap (λ (t : Bool). cond t (doneOf c values) (answerRefused (number why))) (ne-eqb (number why) 0 (number-some why)))
+        sym
+        (ap (λ (n : ℕ). answerOf n c values) all
+        ∙ ap (λ (b : Bool). cond b (doneOf c values) (answerRefused (number why))) (ne-eqb (number why) 0 (number-some why)))
 
     pub slice-refused : {A : Type 0} (nought : A) (written old : List A) → old ≡ lentAfter (number why) nought written old
     unfolding lentAfter
     slice-refused nought written old =
+        let at-7 : eqb (number why) 7 ≡ false =
+        ap (λ (n : ℕ). eqb n 7) e
+        ∙ not-7 (recordWrong c (length values)) (tooFew c) (noRoom c a b x y) (not (allFinite (storedIn c values))) in
         sym
-        (ap (λ (t : Bool). cond t (atFront written old) (cond (eqb (number why) 7) (replicate (length old) nought) old)) (ne-eqb (number why) 0 (number-some why))
-        ∙ ap (λ (t : Bool). cond t (replicate (length old) nought) old) (ap (λ (n : ℕ). eqb n 7) e ∙ not-7 (recordWrong c (length values)) (tooFew c) (noRoom c a b x y) (not (allFinite (storedIn c values)))))
+        (ap (λ (z : Bool). cond z (atFront written old) (cond (eqb (number why) 7) (replicate (length old) nought) old))
+        (ne-eqb (number why) 0 (number-some why))
+        ∙ ap (λ (z : Bool). cond z (replicate (length old) nought) old) at-7)
 
 -- ---- the series at the front of their slices
 
-pub front-series : (c : Chart) (s : ℕ) (values : List Float) (n : ℕ) (old now : List Float) → n ≡ pointsIn c s → now ≡ atFront (seriesOf c s values) old
-    → take (n - 0) now ≡ seriesOf c s values
+pub front-series : (c : Chart) (s : ℕ) (values : List Float) (n : ℕ) (old now : List Float) → n ≡ pointsIn c s
+    → now ≡ atFront (seriesOf c s values) old → take (n - 0) now ≡ seriesOf c s values
 unfolding seriesOf
 front-series c s values n old now e f =
     ap₂ (λ (k : ℕ) (l : List Float). take k l) (sub-zero n ∙ e) f
@@ -205,7 +200,8 @@ sound-parts c values h =
       dispersion-limits = and-right r s limits;
     }
 
-module _ (c : Chart) (values : List Float) {a b x y : ℕ} (h : Ahead c values a b x y) {w : Measured} (e : w ≡ measured c values) (ok : not (w .sound) ≡ false) where
+module _ (c : Chart) (values : List Float) {a b x y : ℕ} (h : Ahead c values a b x y)
+    {w : Measured} (e : w ≡ measured c values) (ok : not (w .sound) ≡ false) where
   sound : Sound c values
   sound = sound-parts c values (sym (ap (λ (v : Measured). v .sound) e) ∙ not-false (w .sound) ok)
 
@@ -248,7 +244,8 @@ module _ (c : Chart) (values : List Float) {w : Measured} (e : w ≡ measured c 
   unfolding answerOf
   answer-done ok =
       ap₂ (λ (k n : ℕ). answerDone (w .main) (w .dispersion) (k + n)) (ap numberOf main-marks) (ap numberOf dispersion-marks)
-      ∙ ap (λ (v : Measured). answerDone (v .main) (v .dispersion) (numberOf (seriesMarks c 0 values) + numberOf (seriesMarks c 1 values))) e
+      ∙ ap
+      (λ (v : Measured). answerDone (v .main) (v .dispersion) (numberOf (seriesMarks c 0 values) + numberOf (seriesMarks c 1 values))) e
       ∙ sym (ap (λ (n : ℕ). answerOf n c values) (passed _ _ _ _ (rw e at ok) ∙ none-applies 0))
 
 pub slice-done : {A : Type 0} (nought : A) (made written old : List A) {now : List A} → now ≡ atFront made old → made ≡ written

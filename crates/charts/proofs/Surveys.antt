@@ -25,9 +25,10 @@ use Rattle.charts.specs.Limits.{measured}
 use Rattle.charts.specs.Evaluating.{tooFew, noRoom, storedIn, aheadOf7}
 use Rattle.charts.specs.Sigma.{sigmaNumber, unlessRefused}
 use Rattle.charts.specs.Steps.{tested, surveyed, centreOf}
+use Rattle.charts.proofs.Answers.{number-some}
 use Rattle.charts.proofs.Held.{held}
 use Rattle.charts.proofs.Points.{points-most}
-use Rattle.charts.proofs.Outcomes.{number-some, Ahead, some-held}
+use Rattle.charts.proofs.Outcomes.{Ahead, some-held}
 
 -- ---- the tests
 
@@ -61,8 +62,8 @@ module _ (c : Chart) (values : List Float) where
   survey-refused {why} is found v =
       let e = sym (ap tested is) ∙ found in
       let all : sigmaNumber c values ≡ number why =
-      same-number (recordWrong c (length values)) (tooFew c) (noRoom c 4096 4096 4096 4096) (not (allFinite (storedIn c values))) (not (measured c values .sound))
-      (room-enough c values) (λ z. number-some why (e ∙ z)) ∙ sym e in
+      same-number (recordWrong c (length values)) (tooFew c) (noRoom c 4096 4096 4096 4096)
+      (not (allFinite (storedIn c values))) (not (measured c values .sound)) (room-enough c values) (λ z. number-some why (e ∙ z)) ∙ sym e in
       sym
       (ap (λ (n : ℕ). (n, cond (eqb n 0) v plusZero)) all
       ∙ ap (λ (t : Bool). (number why, cond t v plusZero)) (ne-eqb (number why) 0 (number-some why)))

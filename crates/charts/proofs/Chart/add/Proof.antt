@@ -1,4 +1,4 @@
--- `Chart::add` meets its contract: its tests are those of the definition, in the same order, and the sample is written behind the others. Assumes nothing.
+-- `Chart::add` meets its contract: its tests are those of the definition, and the sample goes behind the others. Assumes nothing.
 use mathlib.Core.Path.{refl, sym, ap, _∙_}
 use mathlib.Core.Bool.{not}
 use native.Mathlib.Omega.{arith}
@@ -70,7 +70,8 @@ add-end c =
     let if1 = c .before .before .before .before .before .before .before .before .if1 in
     let record-wrong = c .before .before .before .before .before .before .before .before .before .record-wrong in
     let args = c .before .before .before .before .before .before .before .before .before .before .before .before .args in
-    let figures = held (args .self) (length (args .values .now)) (told (record-wrong .ensures) (if1 .left)) .figures in omega (arith, figures .all, figures .most)
+    let figures = held (args .self) (length (args .values .now)) (told (record-wrong .ensures) (if1 .left)) .figures in
+    omega (arith, figures .all, figures .most)
 
 returns-5 : tie.Need-returns-5
 unfolding addOf valuesAfter

@@ -1,9 +1,5 @@
 -- `Chart::evaluate` meets its contract: refused ahead of the arithmetic, or as `evaluate::evaluate` says. Assumes nothing.
 use mathlib.Core.Path.{sym, ap, _∙_}
-use lib.ListN.{length}
-use Rattle.charts.specs.Arith.{plusZero}
-use Rattle.charts.specs.Series.{seriesOf}
-use Rattle.charts.specs.Evaluating.{seriesMarks}
 use Rattle.charts.specs.Steps.{tested}
 use Rattle.charts.proofs.Outcomes.{ahead, answer-passed, answer-refused, slice-refused}
 use borrow.Author.Needs.{needs}
@@ -30,17 +26,16 @@ returns c =
     let why = c .before .why in
     let check = c .before .before .before .check in
     let args = c .before .before .before .before .before .before .before .before .before .args in
-    let a = args in
     let is = why .given .1 in
     let found = check .ensures in (
-      answer-refused (a .self) (a .values .now) (length (a .main .now)) (length (a .dispersion .now)) (length (a .main-marks .now)) (length (a .dispersion-marks .now)) is found,
+      answer-refused (args .self) (args .values .now) _ _ _ _ is found,
       (
-        slice-refused (a .self) (a .values .now) (length (a .main .now)) (length (a .dispersion .now)) (length (a .main-marks .now)) (length (a .dispersion-marks .now)) is found plusZero (seriesOf (a .self) 0 (a .values .now)) (a .main .now),
+        slice-refused (args .self) (args .values .now) _ _ _ _ is found _ _ _,
         (
-          slice-refused (a .self) (a .values .now) (length (a .main .now)) (length (a .dispersion .now)) (length (a .main-marks .now)) (length (a .dispersion-marks .now)) is found plusZero (seriesOf (a .self) 1 (a .values .now)) (a .dispersion .now),
+          slice-refused (args .self) (args .values .now) _ _ _ _ is found _ _ _,
           (
-            slice-refused (a .self) (a .values .now) (length (a .main .now)) (length (a .dispersion .now)) (length (a .main-marks .now)) (length (a .dispersion-marks .now)) is found 0 (seriesMarks (a .self) 0 (a .values .now)) (a .main-marks .now),
-            slice-refused (a .self) (a .values .now) (length (a .main .now)) (length (a .dispersion .now)) (length (a .main-marks .now)) (length (a .dispersion-marks .now)) is found 0 (seriesMarks (a .self) 1 (a .values .now)) (a .dispersion-marks .now),
+            slice-refused (args .self) (args .values .now) _ _ _ _ is found _ _ _,
+            slice-refused (args .self) (args .values .now) _ _ _ _ is found _ _ _,
           ),
         ),
       ),
@@ -65,13 +60,9 @@ returns-2 c =
     let back = c .before .before .before .before .before .before .before .before .before .before .before .before .before in
     let check = back .before .before .check in
     let args = back .before .before .before .before .before .before .before .before .args in
-    let a = args in
     let number = sym (check .ensures) ∙ ap tested (enum-told .given .1) in
-    let e = evaluate .ensures in (
-      e .0
-          ∙ answer-passed (a .self) (a .values .now) (length (a .main .now)) (length (a .dispersion .now)) (length (a .main-marks .now)) (length (a .dispersion-marks .now)) (ahead (a .self) (a .values .now) (length (a .main .now)) (length (a .dispersion .now)) (length (a .main-marks .now)) (length (a .dispersion-marks .now)) number),
-      e .1,
-    )
+    let tests = ahead (args .self) (args .values .now) _ _ _ _ number in
+    (evaluate .ensures .0 ∙ answer-passed (args .self) (args .values .now) _ _ _ _ tests, evaluate .ensures .1)
 
 pub evaluate-spec : {M : Type 1} → statement M
 evaluate-spec =

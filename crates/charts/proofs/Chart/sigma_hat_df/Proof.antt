@@ -2,8 +2,7 @@
 use mathlib.Core.Path.{sym, ap, _∙_}
 use lib.ListN.{length}
 use lib.Ieee.{Float}
-use Rattle.charts.specs.Limits.{measured}
-use Rattle.charts.specs.Sigma.{sigmaNumber, dfOf, sigmaHatDfOf}
+use Rattle.charts.specs.Sigma.{dfOf, sigmaHatDfOf}
 use Rattle.charts.specs.Steps.{surveyed}
 use Rattle.charts.proofs.Held.{own-of}
 use Rattle.charts.proofs.Surveys.{figure-refused, figure-done, number-done, surveyed-right}
@@ -26,16 +25,12 @@ df-of-requires c κs =
     let survey = c .before .before .survey in
     let args = c .before .before .before .before .args in
     let found = sym (ap surveyed (enum-told .given .1)) ∙ survey .ensures in
-    let right = surveyed-right (args .self) (args .values .now) (number-done (sigmaNumber (args .self) (args .values .now)) (measured (args .self) (args .values .now) .dispersion .cl) _ found) in
+    let right = surveyed-right (args .self) (args .values .now) (number-done _ _ _ found) in
     (own-of (args .self) (length (args .values .now)) (right .0), right .1)
 
 returns : tie.Need-returns
 unfolding sigmaHatDfOf
-returns c =
-    let why = c .before .why in
-    let survey = c .before .before .before .survey in
-    let args = c .before .before .before .before .before .args in
-    figure-refused (sigmaNumber (args .self) (args .values .now)) (measured (args .self) (args .values .now) .dispersion .cl) (why .given .1) (survey .ensures) _
+returns c = figure-refused _ _ (c .before .why .given .1) (c .before .before .before .survey .ensures) _
 
 returns-2 : tie.Need-returns-2
 unfolding sigmaHatDfOf
@@ -45,8 +40,7 @@ returns-2 c =
     let survey = c .before .before .before .survey in
     let args = c .before .before .before .before .before .args in
     ap (λ (v : Float). (0, v)) (df-of .ensures)
-    ∙ figure-done (sigmaNumber (args .self) (args .values .now)) (measured (args .self) (args .values .now) .dispersion .cl) _ (sym (ap surveyed (enum-told .given .1))
-    ∙ survey .ensures) (λ v. dfOf (args .self))
+    ∙ figure-done _ _ _ (sym (ap surveyed (enum-told .given .1)) ∙ survey .ensures) (λ v. dfOf (args .self))
 
 pub sigma-hat-df-spec : {M : Type 1} → statement M
 sigma-hat-df-spec =

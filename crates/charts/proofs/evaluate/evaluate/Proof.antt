@@ -3,16 +3,16 @@ use mathlib.Core.Path.{refl, ap, _∙_}
 use native.Mathlib.Omega.{arith}
 use lib.ListN.{length}
 use Rattle.charts.specs.declared.Evaluation.{Evaluation}
-use Rattle.charts.specs.Arith.{plusZero}
-use Rattle.charts.specs.Series.{seriesOf}
-use Rattle.charts.specs.Evaluating.{answerDone, seriesMarks}
-use Rattle.charts.proofs.Outcomes.{Ahead, ahead, front-series, answer-7, slice-7, main-accepted, dispersion-accepted, main-marks, dispersion-marks, answer-done, slice-done}
+use Rattle.charts.specs.Evaluating.{answerDone}
+use Rattle.charts.proofs.Outcomes.{Ahead, ahead, front-series}
+use Rattle.charts.proofs.Outcomes.{answer-7, slice-7, main-accepted, dispersion-accepted, main-marks, dispersion-marks, answer-done, slice-done}
 use borrow.Author.Needs.{needs}
 use Rattle.charts.proofs.evaluate.evaluate.Statement.{statement}
 use Rattle.charts.proofs.evaluate.evaluate.Tie as tie
 
 passed-tests : (c : tie.Start)
-    → Ahead (c .args .c) (c .args .values .now) (length (c .args .main .now)) (length (c .args .dispersion .now)) (length (c .args .main-marks .now)) (length (c .args .dispersion-marks .now))
+    → Ahead (c .args .c) (c .args .values .now) (length (c .args .main .now)) (length (c .args .dispersion .now))
+    (length (c .args .main-marks .now)) (length (c .args .dispersion-marks .now))
 passed-tests c = ahead (c .args .c) (c .args .values .now) _ _ _ _ (c .pre)
 
 points-in-requires : tie.Need-points-in-requires
@@ -49,17 +49,15 @@ returns c =
     let measure = back .before .before .before .before .before .before .measure in
     let back2 = back .before .before .before .before .before .before .before .before .before .before .before .before .before in
     let args = back2 .before .before .before .args in
-    let a = args in
-    let m = measure in
-    let z = zero-all .ensures in (
-      answer-7 (a .c) (a .values .now) (m .ensures .0) (if1 .taken),
+    let zeroed = zero-all .ensures in (
+      answer-7 (args .c) (args .values .now) (measure .ensures .0) (if1 .taken),
       (
-        slice-7 plusZero (seriesOf (a .c) 0 (a .values .now)) (a .main .now) (m .last .1 .1 .0) (m .kept .1 .1 .0) (z .0),
+        slice-7 _ _ _ (measure .last .1 .1 .0) (measure .kept .1 .1 .0) (zeroed .0),
         (
-          slice-7 plusZero (seriesOf (a .c) 1 (a .values .now)) (a .dispersion .now) (m .last .1 .1 .1 .0) (m .kept .1 .1 .1 .0) (z .1 .0),
+          slice-7 _ _ _ (measure .last .1 .1 .1 .0) (measure .kept .1 .1 .1 .0) (zeroed .1 .0),
           (
-            slice-7 0 (seriesMarks (a .c) 0 (a .values .now)) (a .main-marks .now) (a .main-marks .now) refl (z .1 .1 .0),
-            slice-7 0 (seriesMarks (a .c) 1 (a .values .now)) (a .dispersion-marks .now) (a .dispersion-marks .now) refl (z .1 .1 .1),
+            slice-7 _ _ _ (args .main-marks .now) refl (zeroed .1 .1 .0),
+            slice-7 _ _ _ (args .dispersion-marks .now) refl (zeroed .1 .1 .1),
           ),
         ),
       ),
@@ -102,12 +100,11 @@ mark-both-requires c κs =
     let points-in = back .before .before .before .before .points-in in
     let args = back .before .before .before .before .before .before .before .before .before .before .args in
     let start = back .before .before .before .before .before .before .before .before .before .before in
-    let a = args in
-    let main = front-series (a .c) 0 (a .values .now) (points-in .result) (a .main .now) (measure .last .1 .1 .0) (points-in .ensures) (measure .ensures .1 .0) in
-    let dispersion = front-series (a .c) 1 (a .values .now) (points-in2 .result) (a .dispersion .now) (measure .last .1 .1 .1 .0) (points-in2 .ensures) (measure .ensures .1 .1) in
+    let main = front-series (args .c) 0 (args .values .now) _ (args .main .now) _ (points-in .ensures) (measure .ensures .1 .0) in
+    let dispersion = front-series (args .c) 1 (args .values .now) _ (args .dispersion .now) _ (points-in2 .ensures) (measure .ensures .1 .1) in
     let h = passed-tests start in (
-      main-accepted (a .c) (a .values .now) h (measure .ensures .0) (if1 .left) main,
-      dispersion-accepted (a .c) (a .values .now) h (measure .ensures .0) (if1 .left) dispersion,
+      main-accepted (args .c) (args .values .now) h (measure .ensures .0) (if1 .left) main,
+      dispersion-accepted (args .c) (args .values .now) h (measure .ensures .0) (if1 .left) dispersion,
     )
 
 same-length-5 : tie.Need-same-length-5
@@ -132,20 +129,20 @@ returns-2 c =
     let points-in = back .before .before .before .before .before .before .before .before .before .points-in in
     let back2 = back .before .before .before .before .before .before .before .before .before .before .before .before .before in
     let args = back2 .before .before .args in
-    let a = args in
-    let main = front-series (a .c) 0 (a .values .now) (points-in .result) (a .main .now) (measure .last .1 .1 .0) (points-in .ensures) (measure .ensures .1 .0) in
-    let dispersion = front-series (a .c) 1 (a .values .now) (points-in2 .result) (a .dispersion .now) (measure .last .1 .1 .1 .0) (points-in2 .ensures) (measure .ensures .1 .1) in
-    let m = measure .ensures in
-    let k = mark-both .ensures in (
-      ap (λ (e : Evaluation). answerDone (e .main) (e .dispersion) (e .marks)) (k .0)
-          ∙ answer-done (a .c) (a .values .now) (m .0) main dispersion (if1 .left),
+    let main = front-series (args .c) 0 (args .values .now) _ (args .main .now) _ (points-in .ensures) (measure .ensures .1 .0) in
+    let dispersion = front-series (args .c) 1 (args .values .now) _ (args .dispersion .now) _ (points-in2 .ensures) (measure .ensures .1 .1) in
+    let is = measure .ensures in
+    let marked = mark-both .ensures in (
+      ap (λ (e : Evaluation). answerDone (e .main) (e .dispersion) (e .marks)) (marked .0)
+          ∙ answer-done (args .c) (args .values .now) (is .0) main dispersion (if1 .left),
       (
-        slice-done plusZero _ (seriesOf (a .c) 0 (a .values .now)) (a .main .now) (m .1 .0) refl,
+        slice-done _ _ _ (args .main .now) (is .1 .0) refl,
         (
-          slice-done plusZero _ (seriesOf (a .c) 1 (a .values .now)) (a .dispersion .now) (m .1 .1) refl,
+          slice-done _ _ _ (args .dispersion .now) (is .1 .1) refl,
           (
-            slice-done 0 _ (seriesMarks (a .c) 0 (a .values .now)) (a .main-marks .now) (k .1 .0) (main-marks (a .c) (a .values .now) (m .0) main dispersion),
-            slice-done 0 _ (seriesMarks (a .c) 1 (a .values .now)) (a .dispersion-marks .now) (k .1 .1) (dispersion-marks (a .c) (a .values .now) (m .0) main dispersion),
+            slice-done _ _ _ (args .main-marks .now) (marked .1 .0) (main-marks (args .c) (args .values .now) (is .0) main dispersion),
+            slice-done _ _ _ (args .dispersion-marks .now) (marked .1 .1)
+                (dispersion-marks (args .c) (args .values .now) (is .0) main dispersion),
           ),
         ),
       ),

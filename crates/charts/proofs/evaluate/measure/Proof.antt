@@ -75,11 +75,10 @@ returns c =
     let points-in2 = c .before .before .before .before .before .before .before .before .before .before .before .before .before .points-in2 in
     let back = c .before .before .before .before .before .before .before .before .before .before .before .before .before in
     let points-in = back .before .points-in in
-    let args = back .before .before .before .before .before .args in (
-      limits-of .ensures
-          ∙ ap₂ (measuredOf (args .c)) (front-series (args .c) 0 (args .values .now) (points-in .result) (args .main .now) _ (points-in .ensures) (fill .ensures)) (front-series (args .c) 1 (args .values .now) (points-in2 .result) (args .dispersion .now) _ (points-in2 .ensures) (fill2 .ensures)),
-      (fill .ensures, fill2 .ensures),
-    )
+    let args = back .before .before .before .before .before .args in
+    let main = front-series (args .c) 0 (args .values .now) _ (args .main .now) _ (points-in .ensures) (fill .ensures) in
+    let dispersion = front-series (args .c) 1 (args .values .now) _ (args .dispersion .now) _ (points-in2 .ensures) (fill2 .ensures) in
+    (limits-of .ensures ∙ ap₂ (measuredOf (args .c)) main dispersion, (fill .ensures, fill2 .ensures))
 
 pub measure-spec : {M : Type 1} → statement M
 measure-spec =

@@ -29,25 +29,16 @@ loop-less : tie.Need-loop-less Inv-loop μ-loop
 loop-less c =
     let loop-test = c .loop-test in
     let loop = c .before .loop in
-    let args = c .before .before .args in
-    omega (arith, one-value-length 0 (args .out .now) (loop .out) (loop .i) (loop .inv), one-value-goes-on 0 (args .out .now) (loop .out) (loop .i) (loop .inv) (loop-test .taken))
+    omega (arith, one-value-length _ _ _ _ (loop .inv), one-value-goes-on _ _ _ _ (loop .inv) (loop-test .taken))
 
 loop-again : tie.Need-loop-again Inv-loop μ-loop
-loop-again c =
-    let loop-test = c .loop-test in
-    let loop = c .before .loop in
-    let args = c .before .before .args in
-    one-value-goes-on 0 (args .out .now) (loop .out) (loop .i) (loop .inv) (loop-test .taken)
+loop-again c = one-value-goes-on _ _ _ _ (c .before .loop .inv) (c .loop-test .taken)
 
 same-length : tie.Need-same-length Inv-loop μ-loop
-same-length c = one-value-length 0 (c .before .before .args .out .now) (c .before .loop .out) (c .before .loop .i) (c .before .loop .inv)
+same-length c = one-value-length _ _ _ _ (c .before .loop .inv)
 
 returns : tie.Need-returns Inv-loop μ-loop
-returns c =
-    let loop-test = c .loop-test in
-    let loop = c .before .loop in
-    let args = c .before .before .args in
-    one-value-ends 0 (args .out .now) (loop .out) (loop .i) (loop .inv) (loop-test .left)
+returns c = one-value-ends _ _ _ _ (c .before .loop .inv) (c .loop-test .left)
 
 pub zero-marks-spec : {M : Type 1} → statement M
 zero-marks-spec =

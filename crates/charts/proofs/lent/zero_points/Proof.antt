@@ -30,28 +30,16 @@ loop-less : tie.Need-loop-less Inv-loop μ-loop
 loop-less c =
     let loop-test = c .loop-test in
     let loop = c .before .loop in
-    let args = c .before .before .args in
-    omega (arith, one-value-length plusZero (args .out .now) (loop .out) (loop .i) (loop .inv), one-value-goes-on plusZero (args .out .now) (loop .out) (loop .i) (loop .inv) (loop-test .taken))
+    omega (arith, one-value-length _ _ _ _ (loop .inv), one-value-goes-on _ _ _ _ (loop .inv) (loop-test .taken))
 
 loop-again : tie.Need-loop-again Inv-loop μ-loop
-loop-again c =
-    let loop-test = c .loop-test in
-    let loop = c .before .loop in
-    let args = c .before .before .args in
-    one-value-goes-on plusZero (args .out .now) (loop .out) (loop .i) (loop .inv) (loop-test .taken)
+loop-again c = one-value-goes-on _ _ _ _ (c .before .loop .inv) (c .loop-test .taken)
 
 same-length : tie.Need-same-length Inv-loop μ-loop
-same-length c =
-    let loop = c .before .loop in
-    let args = c .before .before .args in
-    one-value-length plusZero (args .out .now) (loop .out) (loop .i) (loop .inv)
+same-length c = one-value-length _ _ _ _ (c .before .loop .inv)
 
 returns : tie.Need-returns Inv-loop μ-loop
-returns c =
-    let loop-test = c .loop-test in
-    let loop = c .before .loop in
-    let args = c .before .before .args in
-    one-value-ends plusZero (args .out .now) (loop .out) (loop .i) (loop .inv) (loop-test .left)
+returns c = one-value-ends _ _ _ _ (c .before .loop .inv) (c .loop-test .left)
 
 pub zero-points-spec : {M : Type 1} → statement M
 zero-points-spec =

@@ -18,8 +18,12 @@ abbrev μ-loop : tie.MeasureT-loop
 μ-loop marks n₀ i₀ n i = length marks - i
 
 -- a number of sixteen bits has at most sixteen ones
-bound : (c : tie.After-shared-slice-known Inv-loop μ-loop) → ones (getD (c .before .before .before .args .marks .now) (c .before .before .loop .i) 0) ≤ 16
-bound c = ones-le 16 (getD (c .before .before .before .args .marks .now) (c .before .before .loop .i) 0) (c .shared-slice-known .given (c .before .before .loop .i) .fits)
+bound : (c : tie.After-shared-slice-known Inv-loop μ-loop)
+    → ones (getD (c .before .before .before .args .marks .now) (c .before .before .loop .i) 0) ≤ 16
+bound c =
+    let marks = c .before .before .before .args .marks .now in
+    let i = c .before .before .loop .i in
+    ones-le 16 (getD marks i 0) (c .shared-slice-known .given i .fits)
 
 loop-holds : tie.Need-loop-holds Inv-loop μ-loop
 loop-holds c = (omega arith, omega arith, zero-add _)

@@ -34,16 +34,14 @@ mul-out c =
     let loop-test = c .before .loop-test in
     let loop = c .before .before .loop in
     let points-in = c .before .before .before .points-in in
-    let args = c .before .before .before .before .before .before .args in
-    omega (arith, tabling-room (pointAt (args .c) (args .series) (args .values .now)) (pointsIn (args .c) (args .series)) (args .out .now) (loop .out) (loop .i) (loop .inv) (omega (arith, points-in .ensures, loop-test .taken)))
+    omega (arith, tabling-room _ _ _ _ _ (loop .inv) (omega (arith, points-in .ensures, loop-test .taken)))
 
 slice-write-out : tie.Need-slice-write-out Inv-loop μ-loop
 slice-write-out c =
     let loop-test = c .before .loop-test in
     let loop = c .before .before .loop in
     let points-in = c .before .before .before .points-in in
-    let args = c .before .before .before .before .before .before .args in
-    tabling-room (pointAt (args .c) (args .series) (args .values .now)) (pointsIn (args .c) (args .series)) (args .out .now) (loop .out) (loop .i) (loop .inv) (omega (arith, points-in .ensures, loop-test .taken))
+    tabling-room _ _ _ _ _ (loop .inv) (omega (arith, points-in .ensures, loop-test .taken))
 
 add-i : tie.Need-add-i Inv-loop μ-loop
 add-i c = search needs
@@ -57,23 +55,14 @@ loop-again c =
     let loop-test = c .before .loop-test in
     let loop = c .before .before .loop in
     let points-in = c .before .before .before .points-in in
-    let args = c .before .before .before .before .before .before .args in
-    tabling-goes-on (pointAt (args .c) (args .series) (args .values .now)) (pointsIn (args .c) (args .series)) (args .out .now) (loop .out) (loop .i) (loop .inv) (point .result) (omega (arith, points-in .ensures, loop-test .taken)) (point .ensures)
+    tabling-goes-on _ _ _ _ _ (loop .inv) (point .result) (omega (arith, points-in .ensures, loop-test .taken)) (point .ensures)
 
 same-length : tie.Need-same-length Inv-loop μ-loop
-same-length c =
-    let loop = c .before .loop in
-    let args = c .before .before .before .before .before .args in
-    tabling-length (pointAt (args .c) (args .series) (args .values .now)) (pointsIn (args .c) (args .series)) (args .out .now) (loop .out) (loop .i) (loop .inv)
+same-length c = tabling-length _ _ _ _ _ (c .before .loop .inv)
 
 returns : tie.Need-returns Inv-loop μ-loop
 unfolding seriesOf
-returns c =
-    let loop-test = c .loop-test in
-    let loop = c .before .loop in
-    let points-in = c .before .before .points-in in
-    let args = c .before .before .before .before .before .args in
-    tabling-ends (pointAt (args .c) (args .series) (args .values .now)) (pointsIn (args .c) (args .series)) (args .out .now) (loop .out) (loop .i) (loop .inv) (omega (arith, points-in .ensures, loop-test .left))
+returns c = tabling-ends _ _ _ _ _ (c .before .loop .inv) (omega (arith, c .before .before .points-in .ensures, c .loop-test .left))
 
 pub fill-spec : {M : Type 1} → statement M
 fill-spec =

@@ -8,8 +8,9 @@ use borrow.Author.Needs.{needs}
 use Rattle.charts.proofs.sigma.survey.Statement.{statement}
 use Rattle.charts.proofs.sigma.survey.Tie as tie
 
-fine : (c : tie.After-enum-told) → Ahead (c .before .before .before .before .args .c) (c .before .before .before .before .args .values .now) 4096 4096 4096 4096
-fine c = ahead (c .before .before .before .before .args .c) (c .before .before .before .before .args .values .now) 4096 4096 4096 4096 (sym (c .before .before .check .ensures) ∙ ap tested (c .enum-told .given .1))
+fine : (c : tie.After-enum-told)
+    → Ahead (c .before .before .before .before .args .c) (c .before .before .before .before .args .values .now) 4096 4096 4096 4096
+fine c = ahead _ _ 4096 4096 4096 4096 (sym (c .before .before .check .ensures) ∙ ap tested (c .enum-told .given .1))
 
 check-requires : tie.Need-check-requires
 check-requires c κs = search needs
