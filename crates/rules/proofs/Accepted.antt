@@ -48,3 +48,9 @@ only-finite limits set values room few small wide =
     by true true = refl
     by true false = refl
     by false b = refl
+
+-- what is so, marking does not refuse
+pub accepts : (limits : Limits) (set : ℕ) (values : List Float) (room : ℕ) → Accepted limits set values room → answerOf limits set values room ≡ 0
+unfolding answerOf firstOf
+accepts limits set values room a =
+    simp (le-ltb 4096 (length values) (a .few), le-ltb 511 set (a .small), a .sound, a .finite, le-ltb room (length values) (a .wide))

@@ -1,0 +1,79 @@
+-- Two answers with one number and the same values are one answer: so a promise on the number and the values fixes the answer.
+-- Assumes nothing.
+use mathlib.Core.Path.{_≡_, refl, sym, ap, _∙_}
+use mathlib.Core.Bool.{cond}
+use Prim.Native.Nat.{ℕ}
+use native.Mathlib.Omega.{arith}
+use lib.Dec.{eqb}
+use Rattle.charts.specs.declared.Chart.{Chart}
+use Rattle.charts.specs.declared.Refusal.{Refusal}
+use Rattle.charts.specs.declared.Refusal.the-variants as refusing
+use Rattle.charts.specs.declared.Changed.{Changed}
+use Rattle.charts.specs.declared.Changed.the-variants as changing
+use Rattle.charts.specs.declared.Evaluated.{Evaluated}
+use Rattle.charts.specs.declared.Evaluated.the-variants as evaluating
+use Rattle.charts.specs.declared.Figure.{Figure}
+use Rattle.charts.specs.declared.Figure.the-variants as figuring
+use Rattle.charts.specs.Records.{number, changed}
+use Rattle.charts.specs.Evaluating.{evaluated}
+use Rattle.charts.specs.Sigma.{figured}
+
+-- ---- refusals
+
+-- no refusal's number is 0
+pub number-some : (why : Refusal) → number why ≡ 0 → ⊥
+number-some refusing.Size e = omega arith
+number-some refusing.Length e = omega arith
+number-some refusing.NotFinite e = omega arith
+number-some refusing.Set e = omega arith
+number-some refusing.Full e = omega arith
+number-some refusing.TooShort e = omega arith
+number-some refusing.Overflow e = omega arith
+number-some refusing.TooFew e = omega arith
+number-some refusing.Record e = omega arith
+
+-- the refusal of a number
+abbrev named : ℕ → Refusal
+named n =
+    cond (eqb n 1) refusing.Size
+    (cond (eqb n 2) refusing.Length
+    (cond (eqb n 3) refusing.NotFinite
+    (cond (eqb n 4) refusing.Set
+    (cond (eqb n 5) refusing.Full
+    (cond (eqb n 6) refusing.TooShort
+    (cond (eqb n 7) refusing.Overflow (cond (eqb n 8) refusing.TooFew refusing.Record)))))))
+
+named-number : (why : Refusal) → named (number why) ≡ why
+named-number refusing.Size = refl
+named-number refusing.Length = refl
+named-number refusing.NotFinite = refl
+named-number refusing.Set = refl
+named-number refusing.Full = refl
+named-number refusing.TooShort = refl
+named-number refusing.Overflow = refl
+named-number refusing.TooFew = refl
+named-number refusing.Record = refl
+
+pub number-one : (a b : Refusal) → number a ≡ number b → a ≡ b
+number-one a b e = sym (named-number a) ∙ ap named e ∙ named-number b
+
+-- ---- answers
+
+pub changed-one : (before : Chart) (a b : Changed) → changed before a ≡ changed before b → a ≡ b
+changed-one before (changing.Done c) (changing.Done d) e = ap changing.Done (ap (λ p. p .1) e)
+changed-one before (changing.Done c) (changing.Refused w) e = absurd (number-some w (sym (ap (λ p. p .0) e)))
+changed-one before (changing.Refused v) (changing.Done d) e = absurd (number-some v (ap (λ p. p .0) e))
+changed-one before (changing.Refused v) (changing.Refused w) e = ap changing.Refused (number-one v w (ap (λ p. p .0) e))
+
+pub evaluated-one : (a b : Evaluated) → evaluated a ≡ evaluated b → a ≡ b
+evaluated-one (evaluating.Done c) (evaluating.Done d) e =
+    λ i. evaluating.Done (record { main = e i .main; dispersion = e i .dispersion; marks = e i .marks })
+evaluated-one (evaluating.Done c) (evaluating.Refused w) e = absurd (number-some w (sym (ap (λ p. p .number) e)))
+evaluated-one (evaluating.Refused v) (evaluating.Done d) e = absurd (number-some v (ap (λ p. p .number) e))
+evaluated-one (evaluating.Refused v) (evaluating.Refused w) e = ap evaluating.Refused (number-one v w (ap (λ p. p .number) e))
+
+pub figured-one : (a b : Figure) → figured a ≡ figured b → a ≡ b
+figured-one (figuring.Done x) (figuring.Done y) e = ap figuring.Done (ap (λ p. p .1) e)
+figured-one (figuring.Done x) (figuring.Refused w) e = absurd (number-some w (sym (ap (λ p. p .0) e)))
+figured-one (figuring.Refused v) (figuring.Done y) e = absurd (number-some v (ap (λ p. p .0) e))
+figured-one (figuring.Refused v) (figuring.Refused w) e = ap figuring.Refused (number-one v w (ap (λ p. p .0) e))

@@ -1,0 +1,55 @@
+-- What goes by the kind or by the series, case by case. Assumes nothing.
+use mathlib.Core.Path.{_≡_, refl, sym, _∙_}
+use mathlib.Core.Bool.{Bool, true, false, cond, not, _||_}
+use Prim.Native.Nat.{ℕ}
+use borrow.Author.Tests.{eq-eqb, ne-eqb}
+use lib.Dec.{eqb}
+use Rattle.charts.specs.Records.{byKind}
+use Rattle.charts.specs.Series.{bySeries}
+
+module _ {A : Type 0} (kind : ℕ) (individuals ranges deviations : A) where
+  pub kind-1 : kind ≡ 1 → byKind kind individuals ranges deviations ≡ individuals
+  unfolding byKind
+  kind-1 e = rw (eq-eqb kind 1 e)
+
+  pub kind-2 : (kind ≡ 1 → ⊥) → kind ≡ 2 → byKind kind individuals ranges deviations ≡ ranges
+  unfolding byKind
+  kind-2 ne e = rw (ne-eqb kind 1 ne, eq-eqb kind 2 e)
+
+  pub kind-3 : (kind ≡ 1 → ⊥) → (kind ≡ 2 → ⊥) → byKind kind individuals ranges deviations ≡ deviations
+  unfolding byKind
+  kind-3 ne nt = rw (ne-eqb kind 1 ne, ne-eqb kind 2 nt)
+
+-- where both kinds of subgroups have the same
+pub subgroups : {A : Type 0} (kind : ℕ) (individuals both : A) → (kind ≡ 1 → ⊥) → byKind kind individuals both both ≡ both
+unfolding byKind
+subgroups kind individuals both ne = rw (ne-eqb kind 1 ne) (same (eqb kind 2))
+  where
+    same : (b : Bool) → cond b both both ≡ both
+    same true = refl
+    same false = refl
+
+module _ {A : Type 0} (s : ℕ) (main dispersion : A) where
+  pub series-0 : s ≡ 0 → bySeries s main dispersion ≡ main
+  unfolding bySeries
+  series-0 e = rw (eq-eqb s 0 e)
+
+  pub series-1 : (s ≡ 0 → ⊥) → bySeries s main dispersion ≡ dispersion
+  unfolding bySeries
+  series-1 ne = rw (ne-eqb s 0 ne)
+
+-- ---- what a function's answer tells of the test that it stands for
+
+pub told : {answer test said : Bool} → answer ≡ test → answer ≡ said → test ≡ said
+told e h = sym e ∙ h
+
+pub told-not : {answer test said : Bool} → answer ≡ test → not answer ≡ said → not test ≡ said
+told-not e h = rw e at h
+
+pub or-left : (a b : Bool) → (a || b) ≡ false → a ≡ false
+or-left true b e = e
+or-left false b e = refl
+
+pub or-right : (a b : Bool) → (a || b) ≡ false → b ≡ false
+or-right true b e = cc
+or-right false b e = e

@@ -1,0 +1,54 @@
+-- `Chart::new` meets its contract: its tests are those of the definition, in the same order. Assumes nothing.
+use mathlib.Core.Path.{sym, ap, _∙_}
+use Prim.Native.Nat.{ℕ}
+use Rattle.laws.proofs.Refusals.{passed, refused, none-applies}
+use Rattle.charts.specs.Records.{newOf}
+use Rattle.charts.proofs.Cases.{told}
+use borrow.Author.Needs.{needs}
+use Rattle.charts.proofs.Chart.new.Statement.{statement}
+use Rattle.charts.proofs.Chart.new.Tie as tie
+
+kind-wrong-requires : tie.Need-kind-wrong-requires
+kind-wrong-requires c κs = search needs
+
+returns : tie.Need-returns
+unfolding newOf
+returns c = sym (refused _ _ _ _ (told (c .before .kind-wrong .ensures) (c .if1 .taken)))
+
+size-wrong-requires : tie.Need-size-wrong-requires
+size-wrong-requires c κs = search needs
+
+returns-2 : tie.Need-returns-2
+unfolding newOf
+returns-2 c =
+    let if2 = c .if2 in
+    let size-wrong = c .before .size-wrong in
+    let if1 = c .before .before .if1 in
+    let kind-wrong = c .before .before .before .kind-wrong in
+    sym (passed _ _ _ _ (told (kind-wrong .ensures) (if1 .left)) ∙ refused _ _ _ _ (told (size-wrong .ensures) (if2 .taken)))
+
+shewhart-requires : tie.Need-shewhart-requires
+shewhart-requires c κs = search needs
+
+returns-3 : tie.Need-returns-3
+unfolding newOf
+returns-3 c =
+    let shewhart = c .shewhart in
+    let if2 = c .before .if2 in
+    let size-wrong = c .before .before .size-wrong in
+    let if1 = c .before .before .before .if1 in
+    let kind-wrong = c .before .before .before .before .kind-wrong in
+    let args = c .before .before .before .before .before .args in
+    ap (λ (m : ℕ). (0, record { kind = args .kind; size = args .size; count = 0; set = record { mask = m } })) (shewhart .ensures)
+    ∙ sym (passed _ _ _ _ (told (kind-wrong .ensures) (if1 .left)) ∙ passed _ _ _ _ (told (size-wrong .ensures) (if2 .left)) ∙ none-applies _)
+
+pub new-spec : {M : Type 1} → statement M
+new-spec =
+    tie.close
+    (tie.spec
+    kind-wrong-requires
+    returns
+    size-wrong-requires
+    returns-2
+    shewhart-requires
+    returns-3)

@@ -1,0 +1,78 @@
+-- The number of marks: the code counts the ones of each point's marks, and those are the pairs of the point and a test. Assumes nothing.
+use mathlib.Core.Path.{_≡_, refl, sym, ap, ap₂, _∙_, fun-ext}
+use mathlib.Core.Bool.{Bool, cond, _&&_}
+use mathlib.Core.List.{List, map}
+use Prim.Native.Nat.{ℕ, zero, suc, _+_, _-_, _≤_, _<_}
+use native.Mathlib.Nat.{sub-zero}
+use native.Mathlib.Numerals.{add-one}
+use native.Mathlib.Omega.{arith}
+use borrow.Author.Tests.{eq-eqb}
+use lib.Count.{ones}
+use lib.Ieee.{Float}
+use lib.ListN.{length, getD, take, drop, length-take, drop-of-length-le}
+use lib.Seq.{drop-cons, take-at}
+use Rattle.laws.specs.Bools.{count}
+use Rattle.laws.specs.Lists.{tabulateFrom}
+use Rattle.laws.specs.Front.{atFront}
+use Rattle.laws.proofs.Lists.{length-tabulate}
+use Rattle.laws.proofs.FirstBits.{ones-fromBits}
+use Rattle.sets.specs.declared.Test.{Test}
+use Rattle.sets.specs.Sets.{tests, has, setOf}
+use Rattle.sets.proofs.Sets.{has-setOf}
+use Rattle.rules.specs.declared.Limits.{Limits}
+use Rattle.rules.specs.Lines.{linesOf}
+use Rattle.rules.specs.Marking.{newestFirst, stands, marksAt, marksOf, answerOf, marksAfter}
+use Rattle.charts.specs.Evaluating.{numberOf}
+use Rattle.charts.specs.Steps.{onesIn}
+
+-- ---- the loop that counts
+
+pub count-more : (marks : List ℕ) (i n : ℕ) {whole : ℕ} → i < length marks → n + onesIn (drop i marks) ≡ whole
+    → n + ones (getD marks i 0) + onesIn (drop (i + 1) marks) ≡ whole
+unfolding onesIn
+count-more marks i n h e =
+    rw (add-one i) (let g : n + (ones (getD marks i 0) + onesIn (drop (suc i) marks)) ≡ _ = rw (drop-cons marks i 0 h) at e in omega arith)
+
+pub count-done : (marks : List ℕ) (i n : ℕ) {whole : ℕ} → length marks ≤ i → n + onesIn (drop i marks) ≡ whole → n ≡ whole
+unfolding onesIn
+count-done marks i n h e = let g : n + 0 ≡ _ = rw (drop-of-length-le marks h) at e in omega arith
+
+-- ---- what it counts
+
+-- the marks of a point are a set of tests: as many ones as tests
+ones-set : (p : Test → Bool) → ones (setOf p) ≡ count (map (has (setOf p)) tests)
+unfolding setOf
+ones-set p = ones-fromBits (map p tests) ∙ ap (λ (q : Test → Bool). count (map q tests)) (sym (fun-ext (has-setOf p)))
+
+module _ (p : ℕ → Test → Bool) where
+  ones-sets : (i n : ℕ) → onesIn (tabulateFrom (λ k. setOf (p k)) i n) ≡ numberOf (tabulateFrom (λ k. setOf (p k)) i n)
+  unfolding onesIn numberOf tabulateFrom
+  ones-sets i zero = refl
+  ones-sets i (suc n) = ap₂ _+_ (ones-set (p i)) (ones-sets (suc i) n)
+
+pub ones-marks : (limits : Limits) (set : ℕ) (values : List Float) → onesIn (marksOf limits set values) ≡ numberOf (marksOf limits set values)
+unfolding marksOf marksAt
+ones-marks limits set values = ones-sets (λ i t. has set t && stands (linesOf limits) (newestFirst values (suc i)) t) 0 (length values)
+
+-- ---- the marks at the front of their slice
+
+length-marks : (limits : Limits) (set : ℕ) (values : List Float) → length (marksOf limits set values) ≡ length values
+unfolding marksOf
+length-marks limits set values = length-tabulate (marksAt (linesOf limits) set values) (length values)
+
+pub front-few : (n : ℕ) (l : List ℕ) → n ≤ 4096 → length (take (n - 0) l) ≤ 4096
+front-few n l h = omega (arith, length-take (n - 0) l)
+
+module _ (limits : Limits) (set : ℕ) (values : List Float) (old : List ℕ) (accepted : answerOf limits set values (length old) ≡ 0) where
+  pub marks-written : marksAfter limits set values old ≡ atFront (marksOf limits set values) old
+  unfolding marksAfter
+  marks-written =
+      ap (λ (b : Bool). cond b (atFront (marksOf limits set values) old) old) (eq-eqb (answerOf limits set values (length old)) 0 accepted)
+
+  pub marks-counted : {n : ℕ} {now : List ℕ} → now ≡ marksAfter limits set values old → n ≡ onesIn (take (length values - 0) now)
+      → n ≡ numberOf (marksOf limits set values)
+  marks-counted e f =
+      f
+      ∙ ap₂ (λ (k : ℕ) (l : List ℕ). onesIn (take k l)) (sub-zero (length values)) (e ∙ marks-written)
+      ∙ ap onesIn (take-at (marksOf limits set values) _ (length values) (length-marks limits set values))
+      ∙ ones-marks limits set values

@@ -1,0 +1,12 @@
+-- The laws of the charts, each file after those that it cites.
+pub mod Answers
+mod Folds
+mod Signs
+mod Cases
+mod Held
+mod Points
+mod Appending
+mod Counting
+mod Outcomes
+mod Surveys
+pub mod Examples

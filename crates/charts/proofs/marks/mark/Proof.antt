@@ -1,0 +1,61 @@
+-- `marks::mark` meets its contract: marking refuses nothing, and the marks written are counted. Assumes nothing.
+use native.Mathlib.Omega.{arith}
+use lib.ListN.{length}
+use Rattle.rules.proofs.Accepted.{Accepted, was-accepted}
+use Rattle.charts.proofs.Counting.{front-few, marks-written, marks-counted}
+use mathlib.Core.Path.{_∙_}
+use borrow.Author.Needs.{needs}
+use Rattle.charts.proofs.marks.mark.Statement.{statement}
+use Rattle.charts.proofs.marks.mark.Tie as tie
+
+fine : (c : tie.Start) → Accepted (c .args .limits) (c .args .set .mask) (c .args .points .now) (length (c .args .marks .now))
+fine c = was-accepted (c .args .limits) (c .args .set .mask) (c .args .points .now) (length (c .args .marks .now)) (c .pre)
+
+mark-requires : tie.Need-mark-requires
+mark-requires c κs = search needs
+
+sub-count : tie.Need-sub-count
+sub-count c = search needs
+
+part-count-start : tie.Need-part-count-start
+part-count-start c = search needs
+
+part-count-end : tie.Need-part-count-end
+part-count-end c =
+    let mark = c .before .before .before .mark in
+    let start = c .before .before .before .before .before .before .before in
+    omega (arith, fine start .wide, mark .kept)
+
+count-requires : tie.Need-count-requires
+count-requires c κs =
+    let mark = c .before .before .before .before .mark in
+    let args = c .before .before .before .before .before .before .before .before .args in
+    let start = c .before .before .before .before .before .before .before .before in
+    front-few (length (args .points .now)) (mark .last .1 .1 .1 .0) (fine start .few)
+
+same-length : tie.Need-same-length
+same-length c = search needs
+
+returns : tie.Need-returns
+returns c =
+    let count = c .count in
+    let mark = c .before .before .before .before .before .mark in
+    let args = c .before .before .before .before .before .before .before .before .before .args in
+    let pre = c .before .before .before .before .before .before .before .before .before .pre in
+    let s = args in
+    let marked = mark .ensures .1 in (
+      (marks-counted (s .limits) (s .set .mask) (s .points .now) (s .marks .now) (pre) marked (count .ensures .0), count .ensures .1),
+      marked ∙ marks-written (s .limits) (s .set .mask) (s .points .now) (s .marks .now) (pre),
+    )
+
+pub mark-spec : {M : Type 1} → statement M
+mark-spec =
+    tie.close
+    (tie.spec
+    mark-requires
+    sub-count
+    part-count-start
+    part-count-end
+    count-requires
+    same-length
+    returns)

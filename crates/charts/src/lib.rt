@@ -1,0 +1,289 @@
+// The three variables charts: individuals with moving ranges, means with ranges, means with deviations.
+mod arith;
+mod evaluate;
+mod factors;
+mod lent;
+mod limits;
+mod marks;
+mod records;
+mod series;
+mod sigma;
+
+use rules::Limits;
+use sets::RuleSet;
+ghost use mathlib.Core.Path.{_≡_};
+ghost use lib.ListN.{length};
+ghost use Rattle.charts.specs.Arith.{plusZero};
+ghost use Rattle.charts.specs.Records.{number, changed, noChart, newOf, withSetOf, addOf, valuesAfter};
+ghost use Rattle.charts.specs.Series.{seriesOf};
+ghost use Rattle.charts.specs.Evaluating.{evaluated, evaluateOf, seriesMarks, lentAfter};
+ghost use Rattle.charts.specs.Sigma.{figured, sigmaHatOf, sigmaHatDfOf};
+
+/// A chart: what it is, and how many samples it holds. The values stand in a slice that the caller lends to each call,
+/// one sample after the other from the front.
+///
+/// The numbers may be any. A record that is none is refused by every call (14): its kind is not 1 to 3, its size is not
+/// that of the kind (1 for kind 1, 2 to 25 for kinds 2 and 3), its count is over 4,096, its set is over 511, or, where
+/// values are lent, count times size is over their length.
+pub struct Chart {
+    /// 1 for individuals and moving ranges, 2 for X-bar and R, 3 for X-bar and S.
+    pub kind: u64,
+    /// How many values a sample has.
+    pub size: usize,
+    /// How many samples there are.
+    pub count: usize,
+    /// The tests that evaluating applies.
+    pub set: RuleSet,
+}
+
+/// Why a call is refused. The number is that of document 01, "Numbers a call may give back".
+pub enum Refusal {
+    /// The size is not allowed for the kind (1).
+    Size,
+    /// The sample's length is not the chart's size (2).
+    Length,
+    /// A value is not finite (3).
+    NotFinite,
+    /// The set is over 511 (4).
+    Set,
+    /// The chart holds 4,096 samples (5).
+    Full,
+    /// A lent slice is shorter than needed (6).
+    TooShort,
+    /// A computed point or limit is not finite (7).
+    Overflow,
+    /// There is no subgroup, or there are fewer than 2 observations (8).
+    TooFew,
+    /// The record is none, or count times size is over the slice (14).
+    Record,
+}
+
+/// What making or changing a chart answers.
+pub enum Changed {
+    /// The chart (0).
+    Done(Chart),
+    /// The chart is as it was; of [`Chart::new`], there is none.
+    Refused(Refusal),
+}
+
+/// What evaluating finds.
+pub struct Evaluation {
+    /// The limits of the main series.
+    pub main: Limits,
+    /// The limits of the dispersion series.
+    pub dispersion: Limits,
+    /// The number of marks: pairs of a point and a test, in both series.
+    pub marks: usize,
+}
+
+/// What [`Chart::evaluate`] answers.
+pub enum Evaluated {
+    /// The limits and the number of marks (0).
+    Done(Evaluation),
+    /// There are none.
+    Refused(Refusal),
+}
+
+/// What [`Chart::sigma_hat`] and [`Chart::sigma_hat_df`] answer.
+pub enum Figure {
+    /// The figure (0).
+    Done(f64),
+    /// There is none.
+    Refused(Refusal),
+}
+
+impl Refusal {
+    /// The refusal's number in document 01.
+    ///
+    /// `Refusal::Record.number()` is 14.
+    pub fn number(self) -> u8
+        ensures { λ r. ⌜ r ≡ number self ⌝ }
+    {
+        match self {
+            Refusal::Size => 1,
+            Refusal::Length => 2,
+            Refusal::NotFinite => 3,
+            Refusal::Set => 4,
+            Refusal::Full => 5,
+            Refusal::TooShort => 6,
+            Refusal::Overflow => 7,
+            Refusal::TooFew => 8,
+            Refusal::Record => 14,
+        }
+    }
+}
+
+impl Evaluated {
+    /// Whether no mark stands, in either series. A refusal says so where there is too little to evaluate (8), and no other
+    /// refusal does.
+    pub fn none_stands(self) -> bool
+        ensures { λ r. ⌜ r ≡ evaluated self .noneStands ⌝ }
+    {
+        match self {
+            Evaluated::Done(e) => e.marks == 0,
+            Evaluated::Refused(why) => why.number() == 8,
+        }
+    }
+}
+
+impl Chart {
+    /// A chart with no samples and the set shewhart.
+    ///
+    /// Gives `Done` with the chart. Refuses, in this order: a kind that is not 1 to 3 (14, `Record`), a size that is not
+    /// allowed for the kind (1, `Size`).
+    ///
+    /// `Chart::new(2, 5)` is `Changed::Done` with `Chart { kind: 2, size: 5, count: 0, set: RuleSet::shewhart() }`.
+    pub fn new(kind: u64, size: usize) -> Changed
+        ensures { λ r. ⌜ changed noChart r ≡ newOf kind size ⌝ }
+    {
+        if records::kind_wrong(kind) {
+            return Changed::Refused(Refusal::Record);
+        }
+        if records::size_wrong(kind, size) {
+            return Changed::Refused(Refusal::Size);
+        }
+        Changed::Done(Chart {
+            kind: kind,
+            size: size,
+            count: 0,
+            set: RuleSet::shewhart(),
+        })
+    }
+
+    /// This chart with another set.
+    ///
+    /// Gives `Done` with the chart. Refuses, in this order: a record that is none, by its own numbers (14, `Record`), a set
+    /// over 511 (4, `Set`).
+    ///
+    /// Of the chart above, `with_set(RuleSet::nelson())` is the same with `set: RuleSet::nelson()`.
+    pub fn with_set(self, set: RuleSet) -> Changed
+        ensures { λ r. ⌜ changed self r ≡ withSetOf self set ⌝ }
+    {
+        if records::own_wrong(self) {
+            return Changed::Refused(Refusal::Record);
+        }
+        if 511 < set.mask {
+            return Changed::Refused(Refusal::Set);
+        }
+        Changed::Done(Chart {
+            kind: self.kind,
+            size: self.size,
+            count: self.count,
+            set: set,
+        })
+    }
+
+    /// Appends one sample: writes it behind the samples held, at count times size, and gives the chart with one sample
+    /// more. Values past it are untouched.
+    ///
+    /// Refuses, in this order and with `values` as it came: a record that is none (14, `Record`), a sample that is not of the
+    /// chart's size (2, `Length`), one that is not all finite (3, `NotFinite`), one more than 4,096 (5, `Full`), values
+    /// with no room for it (6, `TooShort`).
+    ///
+    /// With a chart of kind 1 that holds nothing, `add(&mut values, &[8.0])` writes 8.0 to `values[0]` and gives the chart
+    /// with count 1.
+    pub fn add(self, values: &mut [f64], sample: &[f64]) -> Changed
+        ensures answer { λ r. ⌜ changed self r ≡ addOf self (now (values .entry)) (now (sample .entry)) ⌝ }
+        ensures values { λ r. ⌜ now (values .exit)
+            ≡ valuesAfter (changed self r .0) self (now (sample .entry)) (now (values .entry)) ⌝ }
+    {
+        if records::record_wrong(self, values.len()) {
+            return Changed::Refused(Refusal::Record);
+        }
+        if sample.len() != self.size {
+            return Changed::Refused(Refusal::Length);
+        }
+        if !rules::finite::all_finite(sample) {
+            return Changed::Refused(Refusal::NotFinite);
+        }
+        if 4096 <= self.count {
+            return Changed::Refused(Refusal::Full);
+        }
+        let at = self.count * self.size;
+        let end = at + self.size;
+        if values.len() < end {
+            return Changed::Refused(Refusal::TooShort);
+        }
+        lent::copy(&mut values[at..end], sample);
+        let count = self.count + 1;
+        let set = self.set;
+        Changed::Done(Chart {
+            kind: self.kind,
+            size: self.size,
+            count: count,
+            set: set,
+        })
+    }
+
+    /// Evaluates the chart: writes the two series and the marks of their points to the front of the lent slices, main
+    /// series first, and gives their limits and the number of marks. The dispersion series has the moving ranges (one
+    /// point fewer than the main one), ranges or deviations. Entries past the last one written are untouched.
+    ///
+    /// Refuses, in this order: a record that is none (14, `Record`), no subgroup or fewer than 2 observations (8, `TooFew`),
+    /// a slice too short for its series (6, `TooShort`), stored values that are not all finite (3, `NotFinite`), points or
+    /// limits that are not all finite (7, `Overflow`). At 7 all four slices are zero throughout; at any other refusal they
+    /// are as they came.
+    ///
+    /// A chart of kind 1 with three observations of 0.1 and the set shewhart has the limits 0.10000000000000002 three
+    /// times over and 3 marks: its points lie below them.
+    pub fn evaluate(
+        self,
+        values: &[f64],
+        main: &mut [f64],
+        dispersion: &mut [f64],
+        main_marks: &mut [u16],
+        dispersion_marks: &mut [u16],
+    ) -> Evaluated
+        ensures answer { λ r. ⌜ evaluated r
+            ≡ evaluateOf self (now (values .entry)) (length (now (main .entry))) (length (now (dispersion .entry)))
+            (length (now («main_marks» .entry))) (length (now («dispersion_marks» .entry))) ⌝ }
+        ensures main { λ r. ⌜ now (main .exit)
+            ≡ lentAfter (evaluated r .number) plusZero (seriesOf self 0 (now (values .entry))) (now (main .entry)) ⌝ }
+        ensures dispersion { λ r. ⌜ now (dispersion .exit)
+            ≡ lentAfter (evaluated r .number) plusZero (seriesOf self 1 (now (values .entry))) (now (dispersion .entry)) ⌝ }
+        ensures main_marks { λ r. ⌜ now («main_marks» .exit)
+            ≡ lentAfter (evaluated r .number) 0 (seriesMarks self 0 (now (values .entry))) (now («main_marks» .entry)) ⌝ }
+        ensures dispersion_marks { λ r. ⌜ now («dispersion_marks» .exit)
+            ≡ lentAfter (evaluated r .number) 0 (seriesMarks self 1 (now (values .entry))) (now («dispersion_marks» .entry)) ⌝ }
+    {
+        match evaluate::check(
+            self,
+            values,
+            main.len(),
+            dispersion.len(),
+            main_marks.len(),
+            dispersion_marks.len(),
+        ) {
+            evaluate::Tested::Refused(why) => Evaluated::Refused(why),
+            evaluate::Tested::Passed => {
+                evaluate::evaluate(self, values, main, dispersion, main_marks, dispersion_marks)
+            }
+        }
+    }
+
+    /// The estimate of sigma: the dispersion series' centre line by D2 for moving ranges (of 2) and ranges, by C4 for
+    /// deviations.
+    ///
+    /// Refuses, in this order and as evaluating would: 14, 8, 3, 7.
+    pub fn sigma_hat(self, values: &[f64]) -> Figure
+        ensures { λ r. ⌜ figured r ≡ sigmaHatOf self (now (values .entry)) ⌝ }
+    {
+        match sigma::survey(self, values) {
+            sigma::Surveyed::Refused(why) => Figure::Refused(why),
+            sigma::Surveyed::Centre(mean) => Figure::Done(sigma::sigma_from(self, mean)),
+        }
+    }
+
+    /// The degrees of freedom of [`Chart::sigma_hat`]: 0.62 for each moving range, and for subgroups David's
+    /// approximation from D4 or C4 and the number of subgroups.
+    ///
+    /// Refuses, in this order and as evaluating would: 14, 8, 3, 7.
+    pub fn sigma_hat_df(self, values: &[f64]) -> Figure
+        ensures { λ r. ⌜ figured r ≡ sigmaHatDfOf self (now (values .entry)) ⌝ }
+    {
+        match sigma::survey(self, values) {
+            sigma::Surveyed::Refused(why) => Figure::Refused(why),
+            sigma::Surveyed::Centre(_) => Figure::Done(sigma::df_of(self)),
+        }
+    }
+}
