@@ -1,4 +1,5 @@
--- Rows 9 and 14 of 01's table, and its three observations of 0.1, computed. Floats are compared by their bits. Assumes nothing.
+-- Rows 9 and 14 of 01's table, its three observations of 0.1, and a refusal 8 and a 7, computed. Floats are compared by their bits.
+-- Assumes nothing.
 use mathlib.Core.Path.{_≡_, refl}
 use mathlib.Core.Bool.{Bool, true, not, _&&_}
 use mathlib.Core.List.{List, [], _∷_}
@@ -22,7 +23,8 @@ use Rattle.charts.specs.Factors.{decimal, factorOf}
 use Rattle.charts.specs.Records.{byKind, sizeWrong, ownWrong, recordWrong, noChart, newOf}
 use Rattle.charts.specs.Series.{bySeries, individualAt, pointAt, pointsIn, seriesOf}
 use Rattle.charts.specs.Limits.{factorFor, mainLimits, lowerLimit, dispersionLimits, limitsFrom, measuredOf, measured}
-use Rattle.charts.specs.Evaluating.{Answer, tooFew, noRoom, seriesMarks, numberOf, answerOf, evaluateOf}
+use Rattle.charts.specs.Evaluating.{Answer, answerRefused, tooFew, noRoom, seriesMarks, numberOf, answerFor, evaluateOf}
+use Rattle.charts.specs.Sigma.{sigmaNumber, unlessRefused, sigmaFrom, sigmaHatOf, dfOf}
 
 -- ---- row 9: "Kinds 2 and 3: sizes 1 and 26 refused, 2 and 25 taken."
 
@@ -95,10 +97,39 @@ abbrev pub tenthsAnswer : Answer
 tenthsAnswer = evaluateOf (individuals 3) tenths 3 2 3 2
 
 pub tenths-answer : (eqb (tenthsAnswer .number) 0 && eqb (tenthsAnswer .marks) 3 && not (tenthsAnswer .noneStands)) ≡ true
-unfolding evaluateOf answerOf firstOf recordWrong ownWrong sizeWrong tooFew noRoom allFinite finite finiteLimits every
+unfolding evaluateOf answerFor firstOf recordWrong ownWrong sizeWrong tooFew noRoom allFinite finite finiteLimits every
     measured measuredOf limitsFrom mainLimits dispersionLimits lowerLimit factorFor factorOf
     seriesOf tabulateFrom pointAt pointsIn byKind bySeries individualAt movingOf signCleared meanOf
     seriesMarks numberOf marksOf marksAt linesOf oneSigma twoSigma setOf fromBits has hasBit tests bitOf
     newestFirst stands window shows steps alternating count
     ofBits toBits ofInt round add sub mul div lt le
 tenths-answer = refl
+
+-- their sigma figures: 0.0, and 0.62 for each of the two moving ranges
+pub tenths-sigma : (eqb (sigmaHatOf (individuals 3) tenths .0) 0 && eqb (bits (sigmaHatOf (individuals 3) tenths .1)) 0) ≡ true
+unfolding sigmaHatOf sigmaNumber unlessRefused sigmaFrom firstOf recordWrong ownWrong sizeWrong tooFew allFinite finite finiteLimits every
+    measured measuredOf limitsFrom mainLimits dispersionLimits lowerLimit factorFor factorOf
+    seriesOf tabulateFrom pointAt pointsIn byKind bySeries individualAt movingOf signCleared meanOf
+    ofBits toBits ofInt round add sub mul div
+tenths-sigma = refl
+
+pub tenths-df : eqb (bits (dfOf (individuals 3))) (bits (decimal 2 124)) ≡ true
+unfolding dfOf byKind toBits ofInt round mul
+tenths-df = refl
+
+-- ---- one observation is too few (8), which says that no mark stands; the range of two may be too large (7)
+
+pub one-observation : evaluateOf (individuals 1) (decimal 1 80 ∷ []) 1 0 1 0 ≡ answerRefused 8
+unfolding evaluateOf answerFor firstOf recordWrong ownWrong sizeWrong tooFew noRoom byKind bySeries pointsIn
+one-observation = refl
+
+-- the largest f64, then its opposite
+abbrev pub apart : List Float
+apart = ofBits binary64 0x7fefffffffffffff ∷ ofBits binary64 0xffefffffffffffff ∷ []
+
+pub apart-number : eqb (evaluateOf (individuals 2) apart 2 1 2 1 .number) 7 ≡ true
+unfolding evaluateOf answerFor firstOf recordWrong ownWrong sizeWrong tooFew noRoom allFinite finite finiteLimits every
+    measured measuredOf limitsFrom mainLimits dispersionLimits lowerLimit factorFor factorOf
+    seriesOf tabulateFrom pointAt pointsIn byKind bySeries individualAt movingOf signCleared meanOf
+    ofBits ofInt round add sub mul div
+apart-number = refl

@@ -18,8 +18,7 @@ use Rattle.laws.proofs.Lists.{length-tabulate}
 use Rattle.laws.proofs.Refusals.{passed, refused, none-applies, accepted}
 use Rattle.rules.specs.declared.Limits.{Limits}
 use Rattle.rules.specs.Finite.{allFinite, finiteLimits}
-use Rattle.rules.specs.Marking.{marksOf}
-use Rattle.rules.specs.Marking as marking
+use Rattle.rules.specs.Marking.{marksOf, answerOf}
 use Rattle.rules.proofs.Accepted.{accepts}
 use Rattle.charts.specs.declared.Chart.{Chart}
 use Rattle.charts.specs.declared.Refusal.{Refusal}
@@ -30,7 +29,7 @@ use Rattle.charts.specs.Records.{number, recordWrong}
 use Rattle.charts.specs.Series.{bySeries, pointAt, pointsIn, seriesOf}
 use Rattle.charts.specs.Limits.{limitsFrom, measuredOf, measured}
 use Rattle.charts.specs.Evaluating.{answerDone, answerRefused, tooFew, noRoom, storedIn, aheadOf7, at7}
-use Rattle.charts.specs.Evaluating.{seriesMarks, numberOf, doneOf, answerOf, evaluateOf, lentAfter}
+use Rattle.charts.specs.Evaluating.{seriesMarks, numberOf, doneOf, answerFor, evaluateOf, lentAfter}
 use Rattle.charts.specs.Steps.{tested}
 use Rattle.charts.proofs.Answers.{number-some}
 use Rattle.charts.proofs.Cases.{kind-1, subgroups, or-left, or-right}
@@ -111,10 +110,10 @@ module _ (c : Chart) (values : List Float) (a b x y : ℕ) where
       }
 
   -- then 7 decides
-  pub answer-passed : Ahead c values a b x y → answerOf (firstOf (at7 c values) 0) c values ≡ evaluateOf c values a b x y
+  pub answer-passed : Ahead c values a b x y → answerFor (firstOf (at7 c values) 0) c values ≡ evaluateOf c values a b x y
   unfolding evaluateOf
   answer-passed h =
-      ap (λ (n : ℕ). answerOf n c values)
+      ap (λ (n : ℕ). answerFor n c values)
       (sym (passed _ _ _ _ (h .right) ∙ passed _ _ _ _ (h .enough) ∙ passed _ _ _ _ (h .room) ∙ passed _ _ _ _ (h .finite)))
 
   -- ---- refused ahead of 7
@@ -124,12 +123,12 @@ module _ (c : Chart) (values : List Float) (a b x y : ℕ) where
     e = sym (ap tested is) ∙ found
 
     pub answer-refused : answerRefused (number why) ≡ evaluateOf c values a b x y
-    unfolding evaluateOf answerOf
+    unfolding evaluateOf answerFor
     answer-refused =
         let all : firstOf (aheadOf7 c values a b x y ++ at7 c values) 0 ≡ number why =
         extended (aheadOf7 c values a b x y) (at7 c values) (λ z. number-some why (e ∙ z)) ∙ sym e in
         sym
-        (ap (λ (n : ℕ). answerOf n c values) all
+        (ap (λ (n : ℕ). answerFor n c values) all
         ∙ ap (λ (b : Bool). cond b (doneOf c values) (answerRefused (number why))) (ne-eqb (number why) 0 (number-some why)))
 
     pub slice-refused : {A : Type 0} (nought : A) (written old : List A) → old ≡ lentAfter (number why) nought written old
@@ -159,9 +158,9 @@ length-series c s values = length-tabulate (pointAt c s values) (pointsIn c s)
 -- ---- not sound: 7
 
 module _ (c : Chart) (values : List Float) {w : Measured} (e : w ≡ measured c values) where
-  pub answer-7 : not (w .sound) ≡ true → answerRefused 7 ≡ answerOf (firstOf (at7 c values) 0) c values
-  unfolding answerOf
-  answer-7 h = sym (ap (λ (n : ℕ). answerOf n c values) (refused _ _ _ _ (rw e at h)))
+  pub answer-7 : not (w .sound) ≡ true → answerRefused 7 ≡ answerFor (firstOf (at7 c values) 0) c values
+  unfolding answerFor
+  answer-7 h = sym (ap (λ (n : ℕ). answerFor n c values) (refused _ _ _ _ (rw e at h)))
 
 pub slice-7 : {A : Type 0} (nought : A) (written old between : List A) {now : List A} → length between ≡ length old
     → now ≡ replicate (length between) nought → now ≡ lentAfter 7 nought written old
@@ -206,9 +205,9 @@ module _ (c : Chart) (values : List Float) {a b x y : ℕ} (h : Ahead c values a
   sound = sound-parts c values (sym (ap (λ (v : Measured). v .sound) e) ∙ not-false (w .sound) ok)
 
   -- marking refuses neither series
-  pub main-accepted : {points : List Float} → points ≡ seriesOf c 0 values → marking.answerOf (w .main) (c .set .mask) points x ≡ 0
+  pub main-accepted : {points : List Float} → points ≡ seriesOf c 0 values → answerOf (w .main) (c .set .mask) points x ≡ 0
   main-accepted f =
-      ap₂ (λ (l : Limits) (s : List Float). marking.answerOf l (c .set .mask) s x) (ap (λ (v : Measured). v .main) e) f
+      ap₂ (λ (l : Limits) (s : List Float). answerOf l (c .set .mask) s x) (ap (λ (v : Measured). v .main) e) f
       ∙ accepts (measured c values .main) (c .set .mask) (seriesOf c 0 values) x (record {
         few = omega (arith, length-series c 0 values, h .main-few);
         small = held c (length values) (h .right) .figures .set-small;
@@ -217,9 +216,9 @@ module _ (c : Chart) (values : List Float) {a b x y : ℕ} (h : Ahead c values a
         wide = omega (arith, length-series c 0 values, h .main-marks-room);
       })
 
-  pub dispersion-accepted : {points : List Float} → points ≡ seriesOf c 1 values → marking.answerOf (w .dispersion) (c .set .mask) points y ≡ 0
+  pub dispersion-accepted : {points : List Float} → points ≡ seriesOf c 1 values → answerOf (w .dispersion) (c .set .mask) points y ≡ 0
   dispersion-accepted f =
-      ap₂ (λ (l : Limits) (s : List Float). marking.answerOf l (c .set .mask) s y) (ap (λ (v : Measured). v .dispersion) e) f
+      ap₂ (λ (l : Limits) (s : List Float). answerOf l (c .set .mask) s y) (ap (λ (v : Measured). v .dispersion) e) f
       ∙ accepts (measured c values .dispersion) (c .set .mask) (seriesOf c 1 values) y (record {
         few = omega (arith, length-series c 1 values, h .dispersion-few);
         small = held c (length values) (h .right) .figures .set-small;
@@ -240,13 +239,13 @@ module _ (c : Chart) (values : List Float) {w : Measured} (e : w ≡ measured c 
 
   pub answer-done : not (w .sound) ≡ false
       → answerDone (w .main) (w .dispersion) (numberOf (marksOf (w .main) (c .set .mask) main) + numberOf (marksOf (w .dispersion) (c .set .mask) dispersion))
-      ≡ answerOf (firstOf (at7 c values) 0) c values
-  unfolding answerOf
+      ≡ answerFor (firstOf (at7 c values) 0) c values
+  unfolding answerFor
   answer-done ok =
       ap₂ (λ (k n : ℕ). answerDone (w .main) (w .dispersion) (k + n)) (ap numberOf main-marks) (ap numberOf dispersion-marks)
       ∙ ap
       (λ (v : Measured). answerDone (v .main) (v .dispersion) (numberOf (seriesMarks c 0 values) + numberOf (seriesMarks c 1 values))) e
-      ∙ sym (ap (λ (n : ℕ). answerOf n c values) (passed _ _ _ _ (rw e at ok) ∙ none-applies 0))
+      ∙ sym (ap (λ (n : ℕ). answerFor n c values) (passed _ _ _ _ (rw e at ok) ∙ none-applies 0))
 
 pub slice-done : {A : Type 0} (nought : A) (made written old : List A) {now : List A} → now ≡ atFront made old → made ≡ written
     → now ≡ lentAfter 0 nought written old

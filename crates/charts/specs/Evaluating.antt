@@ -98,12 +98,12 @@ doneOf c values =
     answerDone (measured c values .main) (measured c values .dispersion) (numberOf (seriesMarks c 0 values) + numberOf (seriesMarks c 1 values))
 
 -- the answer that goes with a number
-unfoldable pub answerOf : ℕ → Chart → List Float → Answer
-answerOf n c values = cond (eqb n 0) (doneOf c values) (answerRefused n)
+unfoldable pub answerFor : ℕ → Chart → List Float → Answer
+answerFor n c values = cond (eqb n 0) (doneOf c values) (answerRefused n)
 
 unfoldable pub evaluateOf : Chart → List Float → ℕ → ℕ → ℕ → ℕ → Answer
 evaluateOf c values main dispersion mainMarks dispersionMarks =
-    answerOf (firstOf (aheadOf7 c values main dispersion mainMarks dispersionMarks ++ at7 c values) 0) c values
+    answerFor (firstOf (aheadOf7 c values main dispersion mainMarks dispersionMarks ++ at7 c values) 0) c values
 
 -- ---- the lent slices
 

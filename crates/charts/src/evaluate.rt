@@ -16,13 +16,12 @@ ghost use Prim.Native.Nat.{_+_, _≤_};
 ghost use lib.ListN.{length};
 ghost use Rattle.laws.specs.Refusals.{firstOf};
 ghost use Rattle.laws.specs.Front.{atFront};
-ghost use Rattle.rules.specs.Marking.{marksOf};
-ghost use Rattle.rules.specs.Marking as marking;
+ghost use Rattle.rules.specs.Marking.{marksOf, answerOf};
 ghost use Rattle.charts.specs.Arith.{plusZero};
 ghost use Rattle.charts.specs.Records.{recordWrong};
 ghost use Rattle.charts.specs.Series.{pointsIn, seriesOf};
 ghost use Rattle.charts.specs.Limits.{measured};
-ghost use Rattle.charts.specs.Evaluating.{evaluated, tooFew, noRoom, aheadOf7, at7, seriesMarks, numberOf, answerOf, lentAfter};
+ghost use Rattle.charts.specs.Evaluating.{evaluated, tooFew, noRoom, aheadOf7, at7, seriesMarks, numberOf, answerFor, lentAfter};
 ghost use Rattle.charts.specs.Steps.{tested};
 
 // What the tests ahead of the arithmetic find.
@@ -106,8 +105,8 @@ fn mark_both(
     main_marks: &mut [u16],
     dispersion_marks: &mut [u16],
 ) -> Evaluation
-    requires { ⌜ (marking.answerOf (w .main) (set .mask) (now main) (length (now «main_marks»)) ≡ 0)
-        × (marking.answerOf (w .dispersion) (set .mask) (now dispersion) (length (now «dispersion_marks»)) ≡ 0) ⌝ }
+    requires { ⌜ (answerOf (w .main) (set .mask) (now main) (length (now «main_marks»)) ≡ 0)
+        × (answerOf (w .dispersion) (set .mask) (now dispersion) (length (now «dispersion_marks»)) ≡ 0) ⌝ }
     ensures answer { λ r. ⌜ r ≡ record {
       main = w .main;
       dispersion = w .dispersion;
@@ -142,7 +141,7 @@ pub fn evaluate(
 ) -> Evaluated
     requires { ⌜ firstOf (aheadOf7 c (now values) (length (now main)) (length (now dispersion))
         (length (now «main_marks»)) (length (now «dispersion_marks»))) 0 ≡ 0 ⌝ }
-    ensures answer { λ r. ⌜ evaluated r ≡ answerOf (firstOf (at7 c (now (values .entry))) 0) c (now (values .entry)) ⌝ }
+    ensures answer { λ r. ⌜ evaluated r ≡ answerFor (firstOf (at7 c (now (values .entry))) 0) c (now (values .entry)) ⌝ }
     ensures main { λ r. ⌜ now (main .exit)
         ≡ lentAfter (evaluated r .number) plusZero (seriesOf c 0 (now (values .entry))) (now (main .entry)) ⌝ }
     ensures dispersion { λ r. ⌜ now (dispersion .exit)

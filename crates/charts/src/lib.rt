@@ -22,8 +22,8 @@ ghost use Rattle.charts.specs.Sigma.{figured, sigmaHatOf, sigmaHatDfOf};
 /// A chart: what it is, and how many samples it holds. The values stand in a slice that the caller lends to each call,
 /// one sample after the other from the front.
 ///
-/// The numbers may be any. A record that is none is refused by every call (14): its kind is not 1 to 3, its size is not
-/// that of the kind (1 for kind 1, 2 to 25 for kinds 2 and 3), its count is over 4,096, its set is over 511, or, where
+/// The numbers may be any. A record that is no chart is refused by every call (14): its kind is not 1 to 3, its size is
+/// not one of the kind (1 for kind 1, 2 to 25 for kinds 2 and 3), its count is over 4,096, its set is over 511, or, where
 /// values are lent, count times size is over their length.
 pub struct Chart {
     /// 1 for individuals and moving ranges, 2 for X-bar and R, 3 for X-bar and S.
@@ -54,7 +54,7 @@ pub enum Refusal {
     Overflow,
     /// There is no subgroup, or there are fewer than 2 observations (8).
     TooFew,
-    /// The record is none, or count times size is over the slice (14).
+    /// The record is no chart, or count times size is over the slice (14).
     Record,
 }
 
@@ -116,6 +116,8 @@ impl Refusal {
 impl Evaluated {
     /// Whether no mark stands, in either series. A refusal says so where there is too little to evaluate (8), and no other
     /// refusal does.
+    ///
+    /// `Evaluated::Refused(Refusal::TooFew).none_stands()` is `true`.
     pub fn none_stands(self) -> bool
         ensures { λ r. ⌜ r ≡ evaluated self .noneStands ⌝ }
     {
@@ -152,10 +154,10 @@ impl Chart {
 
     /// This chart with another set.
     ///
-    /// Gives `Done` with the chart. Refuses, in this order: a record that is none, by its own numbers (14, `Record`), a set
-    /// over 511 (4, `Set`).
+    /// Gives `Done` with the chart. Refuses, in this order: a record that is no chart, by its own numbers (14, `Record`),
+    /// a set over 511 (4, `Set`).
     ///
-    /// Of the chart above, `with_set(RuleSet::nelson())` is the same with `set: RuleSet::nelson()`.
+    /// `chart.with_set(RuleSet::nelson())` is `Changed::Done` with the same chart, but for `set: RuleSet::nelson()`.
     pub fn with_set(self, set: RuleSet) -> Changed
         ensures { λ r. ⌜ changed self r ≡ withSetOf self set ⌝ }
     {
@@ -176,8 +178,8 @@ impl Chart {
     /// Appends one sample: writes it behind the samples held, at count times size, and gives the chart with one sample
     /// more. Values past it are untouched.
     ///
-    /// Refuses, in this order and with `values` as it came: a record that is none (14, `Record`), a sample that is not of the
-    /// chart's size (2, `Length`), one that is not all finite (3, `NotFinite`), one more than 4,096 (5, `Full`), values
+    /// Refuses, in this order and with `values` as it came: a record that is no chart (14, `Record`), a sample that is not
+    /// of the chart's size (2, `Length`), one that is not all finite (3, `NotFinite`), one more than 4,096 (5, `Full`), values
     /// with no room for it (6, `TooShort`).
     ///
     /// With a chart of kind 1 that holds nothing, `add(&mut values, &[8.0])` writes 8.0 to `values[0]` and gives the chart
@@ -219,8 +221,8 @@ impl Chart {
     /// series first, and gives their limits and the number of marks. The dispersion series has the moving ranges (one
     /// point fewer than the main one), ranges or deviations. Entries past the last one written are untouched.
     ///
-    /// Refuses, in this order: a record that is none (14, `Record`), no subgroup or fewer than 2 observations (8, `TooFew`),
-    /// a slice too short for its series (6, `TooShort`), stored values that are not all finite (3, `NotFinite`), points or
+    /// Refuses, in this order: a record that is no chart (14, `Record`), no subgroup or fewer than 2 observations
+    /// (8, `TooFew`), a slice too short for its series (6, `TooShort`), stored values that are not all finite (3, `NotFinite`), points or
     /// limits that are not all finite (7, `Overflow`). At 7 all four slices are zero throughout; at any other refusal they
     /// are as they came.
     ///
@@ -261,10 +263,14 @@ impl Chart {
         }
     }
 
-    /// The estimate of sigma: the dispersion series' centre line by D2 for moving ranges (of 2) and ranges, by C4 for
-    /// deviations.
+    /// The estimate of sigma: the dispersion series' centre line, divided by D2 (moving ranges by that of 2, ranges by that
+    /// of the size) or by C4 (deviations).
     ///
-    /// Refuses, in this order and as evaluating would: 14, 8, 3, 7.
+    /// Gives `Done` with the figure. Refuses as evaluating would, in this order: a record that is no chart (14, `Record`), no
+    /// subgroup or fewer than 2 observations (8, `TooFew`), stored values that are not all finite (3, `NotFinite`), points
+    /// or limits that are not all finite (7, `Overflow`).
+    ///
+    /// Of three observations of 0.1 it is 0.0: their moving ranges are.
     pub fn sigma_hat(self, values: &[f64]) -> Figure
         ensures { λ r. ⌜ figured r ≡ sigmaHatOf self (now (values .entry)) ⌝ }
     {
@@ -277,7 +283,9 @@ impl Chart {
     /// The degrees of freedom of [`Chart::sigma_hat`]: 0.62 for each moving range, and for subgroups David's
     /// approximation from D4 or C4 and the number of subgroups.
     ///
-    /// Refuses, in this order and as evaluating would: 14, 8, 3, 7.
+    /// Gives `Done` with the figure. Refuses as [`Chart::sigma_hat`] does.
+    ///
+    /// Of three observations of 0.1 it is 1.24.
     pub fn sigma_hat_df(self, values: &[f64]) -> Figure
         ensures { λ r. ⌜ figured r ≡ sigmaHatDfOf self (now (values .entry)) ⌝ }
     {
