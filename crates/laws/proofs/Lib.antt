@@ -4,4 +4,5 @@ pub mod OneBit
 pub mod FirstBits
 pub mod Lists
 pub mod Filling
+pub mod Lending
 pub mod Refusals

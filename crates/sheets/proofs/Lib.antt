@@ -1,0 +1,7 @@
+-- The laws of mark sheets.
+mod Points
+pub mod Sheets
+mod Reading
+mod Comparing
+mod Writing
+mod Judging
