@@ -4,7 +4,7 @@ use mathlib.Core.Bool.{true, false, not}
 use mathlib.Core.List.{List, [], _∷_}
 use Prim.Native.Nat.{ℕ, _≤_}
 use native.Mathlib.Omega.{arith}
-use borrow.Author.Tests.{ltb-false, not-false}
+use borrow.Author.Tests.{le-ltb, ltb-false, not-false}
 use lib.Dec.{ltb}
 use lib.Ieee.{Float}
 use lib.ListN.{length}
@@ -36,3 +36,8 @@ was-accepted limits set values room e =
       finite = not-false (allFinite values) (d .0);
       wide = ltb-false room (length values) (f .0);
     }
+
+pub is-accepted : (limits : Limits) (set : ℕ) (values : List Float) (room : ℕ) → Accepted limits set values room → answerOf limits set values room ≡ 0
+unfolding answerOf firstOf
+is-accepted limits set values room a =
+    simp (le-ltb 4096 (length values) (a .few), le-ltb 511 set (a .small), a .sound, a .finite, le-ltb room (length values) (a .wide))

@@ -3,4 +3,5 @@ mod Windows
 mod ReadOff
 mod Bitwise
 mod Marks
+pub mod Meaning
 pub mod Accepted

@@ -13,13 +13,12 @@ use borrow.Author.Tests.{lt-ltb, le-ltb, ltb-true, ltb-false, le-leb, lt-leb, le
 use Rattle.laws.specs.Refusals.{firstOf}
 use Rattle.laws.specs.Front.{atFrontIfRoom}
 use Rattle.laws.proofs.Refusals.{passed, refused}
-use Rattle.laws.proofs.Lists.{length-tabulate}
 use Rattle.groups.proofs.Numbers.{Bytes}
 use Rattle.rules.specs.declared.Limits.{Limits}
 use Rattle.rules.specs.Finite.{finiteLimits, allFinite}
-use Rattle.rules.specs.Lines.{linesOf}
 use Rattle.rules.specs.declared.Marked.{Marked}
-use Rattle.rules.specs.Marking.{numbered, answerOf, marksAt, marksOf, marksAfter}
+use Rattle.rules.specs.Marking.{numbered, answerOf, marksOf, marksAfter}
+use Rattle.rules.proofs.Meaning.{length-marks}
 use Rattle.sheets.specs.declared.reader.Head.{Head}
 use Rattle.sheets.specs.declared.reader.Head.the-variants.{Names, Faulty}
 use Rattle.sheets.specs.Sheet.{sheetOf}
@@ -124,10 +123,6 @@ module _ (limits : Limits) (set : ℕ) (values : List Float) where
       let fits : ltb (length values) (length values) ≡ false = le-ltb (length values) (length values) (omega arith) in
       not-six (ltb 4096 (length values)) (ltb 511 set) (not (finiteLimits limits)) (not (allFinite values)) (rw fits at e)
 
-  pub length-marks : length (marksOf limits set values) ≡ length values
-  unfolding marksOf
-  length-marks = length-tabulate (marksAt (linesOf limits) set values) (length values)
-
   no-refusal : refusal limits set values ≡ 0 → not (eqb (refusal limits set values) 0) ≡ false
   no-refusal e = simp (eq-eqb (refusal limits set values) 0 e)
 
@@ -141,7 +136,7 @@ module _ (limits : Limits) (set : ℕ) (values : List Float) where
     marks-front old l =
         let yes : eqb (answerOf limits set values (length old)) 0 ≡ true =
         eq-eqb _ 0 (ap (answerOf limits set values) l ∙ room-enough ∙ done) in
-        simp yes (take-at (marksOf limits set values) (drop (length (marksOf limits set values)) old) (length values) length-marks)
+        simp yes (take-at (marksOf limits set values) (drop (length (marksOf limits set values)) old) (length values) (length-marks limits set values))
 
     pub check-done : (s : List ℕ) → judged set (marksOf limits set values) (said s) ≡ checkOf limits set values s
     unfolding checkOf firstOf

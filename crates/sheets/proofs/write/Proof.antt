@@ -6,13 +6,14 @@ use mathlib.Core.List.{List}
 use lib.ListN.{length, take, replicate, length-replicate}
 use Rattle.rules.specs.declared.Marked.the-variants.{Done, TooMany, SetTooLarge, NotFinite, TooShort}
 use Rattle.rules.specs.Marking.{marksOf}
+use Rattle.rules.proofs.Meaning.{length-marks}
 use Rattle.rules.proofs.Accepted.{was-accepted}
 use lib.Seq.{length-take-le}
 use Rattle.laws.specs.Front.{atFrontIfRoom}
 use Rattle.sheets.specs.Sheet.{sheetOf}
 use Rattle.sheets.specs.Answers.{seriesSheet}
 use Rattle.sheets.specs.Steps.{roomFor}
-use Rattle.sheets.proofs.Judging.{refusal-is, never-short, length-marks, marks-front, write-done, room-done, write-refused, room-refused}
+use Rattle.sheets.proofs.Judging.{refusal-is, never-short, marks-front, write-done, room-done, write-refused, room-refused}
 use borrow.Author.Needs.{needs}
 use Rattle.sheets.proofs.write.Statement.{statement}
 use Rattle.sheets.proofs.write.Tie as tie
