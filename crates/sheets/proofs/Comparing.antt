@@ -212,25 +212,35 @@ module _ (marks s : List ℕ) (set : ℕ) (whole : Verdict) (i at k : ℕ) (c : 
                 ∙ ap (λ (n : ℕ). against (i + skip + 1) (drop (i + skip + 1) marks) (entries s set (k - 1) n next)) fewer;
           }
 
-  -- no entry is left
+  -- no entry is left: the points from i on are unmarked, unless bytes are left over
   module _ (none : k ≤ 0) where
-    pub compares-left-over : at < length s → (9, at, 0, 0) ≡ whole
-    compares-left-over h = sym (c .same ∙ ap (against i (drop i marks)) (left-over s set (length marks - i) at k none h))
+    end-in : (b : Bool) (v : Verdict) → v ≡ firstWrong i (drop i marks) (replicate (length marks - i) 0)
+        → unlessFault v (cond b (fault at) (sheet set (replicate (length marks - i) 0)))
+        ≡ against i (drop i marks) (cond b (fault at) (sheet set (replicate (length marks - i) 0)))
+    end-in true v e = refl
+    end-in false v e = e
 
-    module _ (end : length s ≤ at) where
-      unmarked : whole ≡ firstWrong i (drop i marks) (replicate (length marks - i) 0)
-      unmarked = c .same ∙ ap (against i (drop i marks)) (all-read s set (length marks - i) at k none end)
+    ends : (v : Verdict) → v ≡ firstWrong i (drop i marks) (replicate (length marks - i) 0) → unlessFault v (entries s set 0 (length marks - i) at) ≡ whole
+    unfolding entries
+    ends v e =
+        let no-more : k ≡ 0 = omega arith in
+        end-in (ltb at (length s)) v e
+        ∙ sym (c .same ∙ ap (λ (n : ℕ). against i (drop i marks) (entries s set n (length marks - i) at)) no-more)
 
-      pub compares-rest : i < length marks → stretchFrom marks i (length marks - 1) 0 ≡ whole
-      compares-rest h =
-          let one : length marks - i ≡ suc (length marks - 1 - i) = omega arith in
-          sym (unmarked ∙ ap (λ (n : ℕ). firstWrong i (drop i marks) (replicate n 0)) one
-          ∙ ap (firstWrong i (drop i marks)) (snoc (length marks - 1 - i)))
-        where
-          snoc : (n : ℕ) → replicate {A = ℕ} (suc n) 0 ≡ replicate n 0 ++ (0 ∷ [])
-          snoc zero = refl
-          snoc (suc n) = ap (λ (l : List ℕ). 0 ∷ l) (snoc n)
+    pub compares-rest : (found : Verdict) → found ≡ stretchFrom marks i (length marks - 1) 0 → i < length marks
+        → unlessFault found (entries s set 0 (length marks - i) at) ≡ whole
+    compares-rest found told h =
+        let one : length marks - i ≡ suc (length marks - 1 - i) = omega arith in
+        ends found
+        (told ∙ sym (ap (λ (n : ℕ). firstWrong i (drop i marks) (replicate n 0)) one ∙ ap (firstWrong i (drop i marks)) (snoc (length marks - 1 - i))))
+      where
+        snoc : (n : ℕ) → replicate {A = ℕ} (suc n) 0 ≡ replicate n 0 ++ (0 ∷ [])
+        snoc zero = refl
+        snoc (suc n) = ap (λ (l : List ℕ). 0 ∷ l) (snoc n)
 
-      pub compares-done : length marks ≤ i → (0, 0, 0, 0) ≡ whole
-      unfolding firstWrong
-      compares-done h = sym (unmarked ∙ rw (drop-of-length-le marks h) refl)
+    pub compares-done : length marks ≤ i → unlessFault (0, 0, 0, 0) (entries s set 0 0 at) ≡ whole
+    unfolding firstWrong
+    compares-done h =
+        let all : 0 ≡ length marks - i = omega arith in
+        ap (λ (n : ℕ). unlessFault (0, 0, 0, 0) (entries s set 0 n at)) all
+        ∙ ends (0, 0, 0, 0) (rw (drop-of-length-le marks h) refl)

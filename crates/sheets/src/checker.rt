@@ -20,8 +20,8 @@ fn settle(s: &[u8], from: usize, count: usize, points: usize, set: u16, answer: 
     let mut k = count;
     while 0 < k {
         match reader::read_entry(s, at, left, set) {
-            Entry::Broken { at: p } => {
-                return Checked::Form { at: p };
+            Entry::Broken { at: fault } => {
+                return Checked::Form { at: fault };
             }
             Entry::Whole {
                 skip,
@@ -97,13 +97,11 @@ fn compare(s: &[u8], from: usize, count: usize, marks: &[u16], set: u16) -> Chec
             }
         }
     }
-    if at < s.len() {
-        return Checked::Form { at };
-    }
     if i < n {
-        return stretch(marks, i, n - 1, 0);
+        let found = stretch(marks, i, n - 1, 0);
+        return settle(s, at, 0, n - i, set, found);
     }
-    Checked::Accepted
+    settle(s, at, 0, 0, set, Checked::Accepted)
 }
 
 // Whether the bytes are the sheet of the set and its right marks: the form first, then points and set, then the marks.

@@ -95,7 +95,7 @@ pub fn read_entry(s: &[u8], at: usize, left: usize, set: u16) -> Entry
     else {
         return Entry::Broken { at };
     };
-    if left as u64 <= skip {
+    if skip >= left as u64 {
         return Entry::Broken { at };
     }
     let Reading::Number { value: marks, next } = groups::read_number(s, second) else {

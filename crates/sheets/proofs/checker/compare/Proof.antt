@@ -1,12 +1,12 @@
 -- `sheets::checker::compare` meets its contract. `Compares` of proofs/Comparing.antt is the invariant of its loop. Assumes nothing.
 use Prim.Native.Nat.{ℕ}
 use native.Mathlib.Omega.{arith}
-use mathlib.Core.Path.{_≡_, refl, sym, ap, _∙_}
+use mathlib.Core.Path.{_≡_, sym, _∙_}
 use lib.ListN.{length}
 use Rattle.sheets.specs.Said.{entries}
 use Rattle.sheets.specs.Answers.{checked}
-use Rattle.sheets.specs.Steps.{against, unlessFault}
-use Rattle.sheets.proofs.Comparing.{Compares, compares-start, compares-broken, compares-fits, compares-wrong, compares-on, compares-left-over, compares-rest, compares-done}
+use Rattle.sheets.specs.Steps.{against}
+use Rattle.sheets.proofs.Comparing.{Compares, compares-start, compares-broken, compares-fits, compares-wrong, compares-on, compares-rest, compares-done}
 use borrow.Author.Needs.{needs}
 use Rattle.sheets.proofs.checker.compare.Statement.{statement}
 use Rattle.sheets.proofs.checker.compare.Tie as tie
@@ -75,20 +75,26 @@ loop-less c = search needs
 loop-again : tie.Need-loop-again Inv-loop μ-loop
 loop-again c = compares-on (c .before .before .before .before .before .before .before .before .before .before .before .args .marks .now) (c .before .before .before .before .before .before .before .before .before .before .before .args .s .now) (c .before .before .before .before .before .before .before .before .before .before .before .args .set) _ (c .before .before .before .before .before .before .before .before .loop .i) (c .before .before .before .before .before .before .before .before .loop .at) (c .before .before .before .before .before .before .before .before .loop .k) (c .before .before .before .before .before .before .before .before .loop .inv) (c .before .before .before .before .before .before .read-entry .result) (c .before .before .before .before .skip .given .0 .0) (c .before .before .before .before .skip .given .0 .1 .0) (c .before .before .before .before .skip .given .0 .1 .1 .0) (c .before .before .before .before .before .before .read-entry .ensures) (c .before .before .before .before .skip .given .1) (c .before .before .before .before .before .before .before .loop-test .taken) (checked (c .before .before .stretch .result)) (c .before .before .stretch .ensures) (sym (c .before .number .ensures) ∙ c .if1 .left)
 
-returns-3 : tie.Need-returns-3 Inv-loop μ-loop
-returns-3 c = compares-left-over (c .before .before .before .before .before .args .marks .now) (c .before .before .before .before .before .args .s .now) (c .before .before .before .before .before .args .set) _ (c .before .before .loop .i) (c .before .before .loop .at) (c .before .before .loop .k) (c .before .before .loop .inv) (c .before .loop-test .left) (c .if2 .taken)
-
 sub-stretch : tie.Need-sub-stretch Inv-loop μ-loop
 sub-stretch c = search needs
 
 stretch-requires-2 : tie.Need-stretch-requires-2 Inv-loop μ-loop
 stretch-requires-2 c κs = search needs
 
-returns-4 : tie.Need-returns-4 Inv-loop μ-loop
-returns-4 c = c .stretch2 .ensures ∙ compares-rest (c .before .before .before .before .before .before .before .args .marks .now) (c .before .before .before .before .before .before .before .args .s .now) (c .before .before .before .before .before .before .before .args .set) _ (c .before .before .before .before .loop .i) (c .before .before .before .before .loop .at) (c .before .before .before .before .loop .k) (c .before .before .before .before .loop .inv) (c .before .before .before .loop-test .left) (c .before .before .if2 .left) (c .before .if3 .taken)
+sub-settle-5 : tie.Need-sub-settle-5 Inv-loop μ-loop
+sub-settle-5 c = search needs
 
-returns-5 : tie.Need-returns-5 Inv-loop μ-loop
-returns-5 c = compares-done (c .before .before .before .before .before .before .args .marks .now) (c .before .before .before .before .before .before .args .s .now) (c .before .before .before .before .before .before .args .set) _ (c .before .before .before .loop .i) (c .before .before .before .loop .at) (c .before .before .before .loop .k) (c .before .before .before .loop .inv) (c .before .before .loop-test .left) (c .before .if2 .left) (c .if3 .left)
+settle-requires-2 : tie.Need-settle-requires-2 Inv-loop μ-loop
+settle-requires-2 c κs = search needs
+
+returns-3 : tie.Need-returns-3 Inv-loop μ-loop
+returns-3 c = c .settle2 .ensures ∙ compares-rest (c .before .before .before .before .before .before .before .args .marks .now) (c .before .before .before .before .before .before .before .args .s .now) (c .before .before .before .before .before .before .before .args .set) _ (c .before .before .before .before .loop .i) (c .before .before .before .before .loop .at) (c .before .before .before .before .loop .k) (c .before .before .before .before .loop .inv) (c .before .before .before .loop-test .left) (checked (c .before .stretch2 .result)) (c .before .stretch2 .ensures) (c .before .before .if2 .taken)
+
+settle-requires-3 : tie.Need-settle-requires-3 Inv-loop μ-loop
+settle-requires-3 c κs = search needs
+
+returns-4 : tie.Need-returns-4 Inv-loop μ-loop
+returns-4 c = c .settle3 .ensures ∙ compares-done (c .before .before .before .before .before .before .args .marks .now) (c .before .before .before .before .before .before .args .s .now) (c .before .before .before .before .before .before .args .set) _ (c .before .before .before .loop .i) (c .before .before .before .loop .at) (c .before .before .before .loop .k) (c .before .before .before .loop .inv) (c .before .before .loop-test .left) (c .before .if2 .left)
 
 pub compare-spec : {M : Type 1} → statement M
 compare-spec =
@@ -115,8 +121,10 @@ compare-spec =
     sub-k
     loop-less
     loop-again
-    returns-3
     sub-stretch
     stretch-requires-2
-    returns-4
-    returns-5)
+    sub-settle-5
+    settle-requires-2
+    returns-3
+    settle-requires-3
+    returns-4)

@@ -23,11 +23,11 @@ loop-holds c = refl
 read-entry-requires : tie.Need-read-entry-requires Inv-loop μ-loop
 read-entry-requires c κs = search needs
 
-enum-known-p : tie.Need-enum-known-p Inv-loop μ-loop
-enum-known-p c = search needs
+enum-known-fault : tie.Need-enum-known-fault Inv-loop μ-loop
+enum-known-fault c = search needs
 
 returns : tie.Need-returns Inv-loop μ-loop
-returns c = sym (c .before .before .before .before .before .loop .inv ∙ ap (unlessFault (checked (c .before .before .before .before .before .before .before .args .answer))) (entry-broken (c .before .before .before .before .before .before .before .args .s .now) (c .before .before .before .before .before .before .before .args .set) (c .before .before .before .before .before .loop .left) (c .before .before .before .before .before .loop .at) (c .before .before .before .before .before .loop .k) (c .before .before .before .read-entry .result) (c .before .before .before .read-entry .ensures) (c .before .p .given .0 .0) (c .before .p .given .1) (c .before .before .before .before .loop-test .taken)))
+returns c = sym (c .before .before .before .before .before .loop .inv ∙ ap (unlessFault (checked (c .before .before .before .before .before .before .before .args .answer))) (entry-broken (c .before .before .before .before .before .before .before .args .s .now) (c .before .before .before .before .before .before .before .args .set) (c .before .before .before .before .before .loop .left) (c .before .before .before .before .before .loop .at) (c .before .before .before .before .before .loop .k) (c .before .before .before .read-entry .result) (c .before .before .before .read-entry .ensures) (c .before .fault .given .0 .0) (c .before .fault .given .1) (c .before .before .before .before .loop-test .taken)))
 
 enum-known-skip : tie.Need-enum-known-skip Inv-loop μ-loop
 enum-known-skip c = search needs
@@ -64,7 +64,7 @@ settle-spec =
     μ-loop
     loop-holds
     read-entry-requires
-    enum-known-p
+    enum-known-fault
     returns
     enum-known-skip
     sub-left
