@@ -87,6 +87,15 @@ read-written x h ahead rest =
     ∙ ap (readAs (length ahead)) (front-written rest x)
     ∙ read-some (length ahead) x (length (groups x)) h
 
+-- The same, told what the bytes are from the place on.
+pub read-there : (s : List ℕ) (at x : ℕ) (rest : List ℕ) → x < 2 ^ 64 → drop at s ≡ groups x ++ rest
+    → numberAt s at ≡ Number x (at + length (groups x))
+unfolding numberAt
+read-there s at x rest h e =
+    ap (λ (l : List ℕ). readAs at (front l)) e
+    ∙ ap (readAs at) (front-written rest x)
+    ∙ read-some at x (length (groups x)) h
+
 -- The number v stands at the place `at`: it has at most 64 bits, its one string starts there, and `next` is just past it.
 pub record Stands (s : List ℕ) (at v next : ℕ) : Type 0 where
   pub fits : v < 2 ^ 64
@@ -136,3 +145,13 @@ pub one-string : (s : List ℕ) (v : ℕ) → Bytes s → numberAt s 0 ≡ Numbe
 one-string s v h e =
     let p = written-read s 0 v (length s) h e in
     p .string ∙ ap (λ (l : List ℕ). groups v ++ l) (drop-length s) ∙ append-nil (groups v)
+
+-- Every group is a byte.
+pub groups-bytes : (x : ℕ) → Bytes (groups x)
+groups-bytes = by-groups (λ (x : ℕ). Bytes (groups x))
+    (λ x h. rw (groups-one x h) (bytes-cons x [] (omega arith) (λ i. omega arith)))
+    (λ x h ih. rw (groups-more x h) (bytes-cons (128 + x % 128) (groups (x / 128)) (omega arith) ih))
+  where
+    bytes-cons : (b : ℕ) (bs : List ℕ) → b < 256 → Bytes bs → Bytes (b ∷ bs)
+    bytes-cons b bs h t zero = h
+    bytes-cons b bs h t (suc i) = t i

@@ -4,5 +4,6 @@ pub mod OneBit
 pub mod FirstBits
 pub mod Lists
 pub mod Filling
+pub mod Lending
 pub mod OneValue
 pub mod Refusals

@@ -4,7 +4,7 @@ use mathlib.Core.Bool.{Bool, true, false, _&&_}
 use mathlib.Core.List.{List, [], _∷_}
 use Prim.Native.Nat.{ℕ, zero, suc, _≤_, _<_}
 use native.Mathlib.Omega.{arith}
-use lib.Bits.{bitAnd}
+use lib.Bits.{bitAnd, and-comm}
 use lib.Ieee.{Float, nan}
 use lib.ListN.{length, take, getD}
 use lib.Seq.{getD-take, length-take-le}
@@ -29,11 +29,12 @@ module _ (l : Lines) (set : ℕ) (values : List Float) (i : ℕ) where
   marked t = has-setOf (λ u. has set u && stands l (newestFirst values (suc i)) u) t
 
   -- A mark is always inside the set.
-  pub marks-inside : bitAnd set (marksAt l set values i) ≡ marksAt l set values i
+  pub marks-inside : bitAnd (marksAt l set values i) set ≡ marksAt l set values i
   unfolding marksAt
   marks-inside =
       let past = newestFirst values (suc i) in
-      and-setOf set (λ t. has set t && stands l past t) ∙ ap setOf (fun-ext (λ t. and-twice (has set t) (stands l past t)))
+      and-comm (marksAt l set values i) set
+      ∙ and-setOf set (λ t. has set t && stands l past t) ∙ ap setOf (fun-ext (λ t. and-twice (has set t) (stands l past t)))
 
   -- And it is a set's number.
   pub marks-lt : marksAt l set values i < 512

@@ -1,0 +1,11 @@
+-- The laws of mark sheets: what they say, what is accepted, and what the loops of the checker and of the writer rest on.
+mod Points
+pub mod Sheets
+mod Reading
+mod Comparing
+mod Writing
+mod Judging
+mod Accepting
+pub mod Answers
+pub mod Demand
+mod Examples

@@ -1,0 +1,85 @@
+-- `sheets::writer::measure` meets its contract. `Measures` of proofs/Writing.antt is the invariant of its loop. Assumes nothing.
+use Prim.Native.Nat.{ℕ, _-_}
+use native.Mathlib.Omega.{arith}
+use lib.ListN.{length}
+use Rattle.sheets.proofs.Writing.{Measures, measures-start, measures-skip, measures-put, measures-end}
+use borrow.Author.Needs.{needs}
+use Rattle.sheets.proofs.writer.measure.Statement.{statement}
+use Rattle.sheets.proofs.writer.measure.Tie as tie
+
+abbrev Inv-loop : tie.InvT-loop
+Inv-loop marks i₀ skip₀ marked₀ len₀ i skip marked len = Measures marks i skip marked len
+
+abbrev μ-loop : tie.MeasureT-loop
+μ-loop marks i₀ skip₀ marked₀ len₀ i skip marked len = length marks - i
+
+loop-holds : tie.Need-loop-holds Inv-loop μ-loop
+loop-holds c = measures-start (c .before .args .marks .now)
+
+mul-m : tie.Need-mul-m Inv-loop μ-loop
+mul-m c = search needs
+
+shared-slice-read-m : tie.Need-shared-slice-read-m Inv-loop μ-loop
+shared-slice-read-m c = search needs
+
+add-skip : tie.Need-add-skip Inv-loop μ-loop
+add-skip c = search needs
+
+add-i : tie.Need-add-i Inv-loop μ-loop
+add-i c = search needs
+
+loop-less : tie.Need-loop-less Inv-loop μ-loop
+loop-less c = search needs
+
+loop-again : tie.Need-loop-again Inv-loop μ-loop
+loop-again c = measures-skip (c .before .before .before .before .before .args .marks .now) (c .before .before .before .loop .i) (c .before .before .before .loop .skip) (c .before .before .before .loop .marked) (c .before .before .before .loop .len) (c .before .before .before .loop .inv) (c .before .before .loop-test .taken) (c .if1 .taken)
+
+size-requires : tie.Need-size-requires Inv-loop μ-loop
+size-requires c κs = search needs
+
+add-len : tie.Need-add-len Inv-loop μ-loop
+add-len c = omega (arith, c .before .before .before .before .loop .inv .short, c .before .before .before .before .loop .inv .points, c .size .ensures .1)
+
+size-requires-2 : tie.Need-size-requires-2 Inv-loop μ-loop
+size-requires-2 c κs = search needs
+
+add-len-2 : tie.Need-add-len-2 Inv-loop μ-loop
+add-len-2 c = omega (arith, c .before .before .before .before .before .loop .inv .short, c .before .before .before .before .before .loop .inv .points, c .before .size .ensures .1, c .size2 .ensures .1)
+
+add-marked : tie.Need-add-marked Inv-loop μ-loop
+add-marked c = search needs
+
+add-i-2 : tie.Need-add-i-2 Inv-loop μ-loop
+add-i-2 c = search needs
+
+loop-less-2 : tie.Need-loop-less-2 Inv-loop μ-loop
+loop-less-2 c = search needs
+
+loop-again-2 : tie.Need-loop-again-2 Inv-loop μ-loop
+loop-again-2 c = measures-put (c .before .before .before .before .before .before .before .args .marks .now) (c .before .before .before .before .before .loop .i) (c .before .before .before .before .before .loop .skip) (c .before .before .before .before .before .loop .marked) (c .before .before .before .before .before .loop .len) (c .before .before .before .before .before .loop .inv) (c .before .before .before .before .loop-test .taken) (c .before .before .if1 .left) (c .before .size .result) (c .size2 .result) (c .before .size .ensures) (c .size2 .ensures)
+
+returns : tie.Need-returns Inv-loop μ-loop
+returns c = measures-end (c .before .before .before .args .marks .now) (c .before .loop .i) (c .before .loop .skip) (c .before .loop .marked) (c .before .loop .len) (c .before .loop .inv) (c .loop-test .left)
+
+pub measure-spec : {M : Type 1} → statement M
+measure-spec =
+    tie.close
+    (tie.spec
+    Inv-loop
+    μ-loop
+    loop-holds
+    mul-m
+    shared-slice-read-m
+    add-skip
+    add-i
+    loop-less
+    loop-again
+    size-requires
+    add-len
+    size-requires-2
+    add-len-2
+    add-marked
+    add-i-2
+    loop-less-2
+    loop-again-2
+    returns)

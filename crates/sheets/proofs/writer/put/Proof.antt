@@ -1,0 +1,50 @@
+-- `sheets::writer::put` meets its contract: the room holds the number, so that it is never too short. Assumes nothing.
+use Prim.Native.Nat.{ℕ}
+use native.Mathlib.Omega.{arith}
+use mathlib.Core.Path.{_≡_, refl, sym, ap, _∙_}
+use borrow.Author.Tests.{le-leb}
+use lib.ListN.{length}
+use Rattle.groups.specs.declared.Writing.the-variants.{Bytes, Short}
+use Rattle.groups.specs.Groups.{groups}
+use borrow.Author.Needs.{needs}
+use Rattle.sheets.proofs.writer.put.Statement.{statement}
+use Rattle.sheets.proofs.writer.put.Tie as tie
+
+write-number-requires : tie.Need-write-number-requires
+write-number-requires c κs = search needs
+
+enum-known-n : tie.Need-enum-known-n
+enum-known-n c = search needs
+
+enum-told : tie.Need-enum-told
+enum-told c = search needs
+
+same-length : tie.Need-same-length
+same-length c = search needs
+
+returns : tie.Need-returns
+returns c =
+    let holds = le-leb (length (groups (c .before .before .before .before .before .before .before .before .args .x))) (length (c .before .before .before .before .before .before .before .before .args .out .now)) (c .before .before .before .before .before .before .before .before .pre) in
+    let bytes : Bytes (c .before .n .given .0 .0) ≡ Bytes (length (groups (c .before .before .before .before .before .before .before .before .args .x))) = sym (c .before .n .given .1) ∙ c .before .before .before .before .before .write-number .ensures .0 ∙ simp holds in
+    (cc, c .before .before .before .before .before .write-number .ensures .1 ∙ simp holds)
+
+same-length-2 : tie.Need-same-length-2
+same-length-2 c = search needs
+
+returns-2 : tie.Need-returns-2
+returns-2 c =
+    let holds = le-leb (length (groups (c .before .before .before .before .before .before .before .args .x))) (length (c .before .before .before .before .before .before .before .args .out .now)) (c .before .before .before .before .before .before .before .pre) in
+    let never : Short ≡ Bytes (length (groups (c .before .before .before .before .before .before .before .args .x))) = sym (c .enum-told .given .1) ∙ c .before .before .before .before .write-number .ensures .0 ∙ simp holds in
+    absurd (let z : _≡_ {A = ℕ} 0 1 = cc in omega arith)
+
+pub put-spec : {M : Type 1} → statement M
+put-spec =
+    tie.close
+    (tie.spec
+    write-number-requires
+    enum-known-n
+    enum-told
+    same-length
+    returns
+    same-length-2
+    returns-2)

@@ -1,0 +1,69 @@
+-- What the parts of the checker and of the writer find and leave. Nothing here has to be believed: the proofs tie it to Said.antt and
+-- Sheet.antt. Definitions only.
+use mathlib.Core.Bool.{Bool, true, false, cond}
+use mathlib.Core.Path.{_≡_}
+use mathlib.Core.List.{List}
+use Prim.Native.Nat.{ℕ, suc, _-_, _*_, _≤_, _<_}
+use lib.Dec.{leb}
+use lib.ListN.{length}
+use Rattle.groups.specs.declared.Reading.{Reading}
+use Rattle.groups.specs.declared.Reading.the-variants.{Number, Fault}
+use Rattle.sheets.specs.declared.reader.Entry.{Entry}
+use Rattle.sheets.specs.declared.reader.Entry.the-variants.{Whole, Broken}
+use Rattle.sheets.specs.declared.reader.Head.{Head}
+use Rattle.sheets.specs.declared.reader.Head.the-variants.{Names, Faulty}
+use Rattle.sheets.specs.Sheet.{marked, entriesOf}
+use Rattle.sheets.specs.Said.{Said, fault, sheet, placed, entries}
+use Rattle.sheets.specs.Answers.{Verdict, firstWrong}
+
+-- ---- reading
+
+-- a number that is at most so much
+abbrev pub atMost : ℕ → ℕ → Reading → Reading
+atMost most at (Fault p) = Fault at
+atMost most at (Number v next) = cond (leb v most) (Number v next) (Fault at)
+
+-- what is said, known the numbers at the head
+abbrev pub afterHead : List ℕ → Head → Said
+afterHead s (Faulty p) = fault p
+afterHead s (Names points set k next) = entries s set k points next
+
+-- what is said, known the first entry; k more follow
+abbrev pub afterEntry : List ℕ → ℕ → ℕ → ℕ → Entry → Said
+afterEntry s set left k (Broken p) = fault p
+afterEntry s set left k (Whole skip m next) = placed skip m (entries s set k (left - suc skip) next)
+
+-- its point is one of those left
+abbrev pub Fits : ℕ → Entry → Type 0
+Fits left (Broken p) = Unit {0}
+Fits left (Whole skip m next) = skip < left
+
+-- the first entry at a place
+pub record FirstEntry (s : List ℕ) (set left at : ℕ) (e : Entry) : Type 0 where
+  pub goes : (k : ℕ) → entries s set (suc k) left at ≡ afterEntry s set left k e
+  pub fits : Fits left e
+
+-- ---- checking
+
+-- a form fault comes first, and else it is this
+abbrev pub unlessFault : Verdict → Said → Verdict
+unlessFault v (fault p) = (9, p, 0, 0)
+unlessFault v (sheet set ms) = v
+
+-- from position i on: a form fault comes first, and else the first wrong marks
+abbrev pub against : ℕ → List ℕ → Said → Verdict
+against i right (fault p) = (9, p, 0, 0)
+against i right (sheet set ms) = firstWrong i right ms
+
+-- ---- writing
+
+-- how many points are marked, and how long their entries are
+pub record Measured (ms : List ℕ) (k n : ℕ) : Type 0 where
+  pub points : k ≡ marked ms
+  pub bytes : n ≡ length (entriesOf 0 ms)
+  pub few : k ≤ length ms
+  pub short : n ≤ 6 * length ms
+
+-- what writing bytes answers where nothing else is refused: 01's number and their length
+abbrev pub roomFor : List ℕ → ℕ → ℕ × ℕ
+roomFor bytes room = cond (leb (length bytes) room) (0, length bytes) (6, 0)
