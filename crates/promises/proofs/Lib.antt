@@ -4,3 +4,5 @@ mod Groups
 mod Root
 mod Sets
 mod Rules
+mod Charts
+mod Sheets
