@@ -1,13 +1,12 @@
 -- What a mark of a series means, test by test: test t is marked at position i exactly where the set has it and its window that ends at i
 -- fits and shows its pattern; so the marks of a position are inside the set. Assumes nothing.
-use mathlib.Core.Path.{_≡_, refl, sym, ap, ap₂, _∙_, fun-ext}
+use mathlib.Core.Path.{_≡_, refl, sym, ap, _∙_, fun-ext}
 use mathlib.Core.Bool.{Bool, true, false, _&&_}
 use mathlib.Core.List.{List}
 use Prim.Native.Nat.{ℕ, suc, _≤_, _<_}
 use lib.Bits.{bitAnd}
 use lib.Ieee.{Float}
 use lib.ListN.{length, getD}
-use Rattle.laws.specs.Lists.{tabulate}
 use Rattle.laws.proofs.Lists.{length-tabulate, getD-tabulate}
 use Rattle.sets.specs.declared.Test.{Test}
 use Rattle.sets.specs.Sets.{has, setOf}

@@ -1,5 +1,5 @@
 -- The turns of the writer's loops, which measure the entries and write them, and the sheet put together. Assumes nothing.
-use Prim.Native.Nat.{ℕ, zero, suc, _+_, _*_, _/_, _≤_, _<_}
+use Prim.Native.Nat.{ℕ, suc, _+_, _*_, _/_, _≤_, _<_}
 use native.Mathlib.Omega.{arith}
 use mathlib.Core.Path.{_≡_, refl, sym, ap, ap₂, _∙_}
 use mathlib.Core.List.{List, [], _∷_, _++_, append-assoc}
@@ -93,10 +93,12 @@ module _ (ms : List ℕ) (i skip k n : ℕ) (p : Measures ms i skip k n) where
       bytes = omega (arith, p .bytes, ap length (entries-skip ms i h z skip));
     }
 
-    pub measures-put : (getD ms i 0 ≡ 0 → ⊥) → (x y : ℕ) → (x ≡ length (groups skip)) × (x ≤ 3) → (y ≡ length (groups (getD ms i 0))) × (y ≤ 3)
+    pub measures-put : (getD ms i 0 ≡ 0 → ⊥) → (x y : ℕ) → (x ≡ length (groups skip)) × (x ≤ 3)
+        → (y ≡ length (groups (getD ms i 0))) × (y ≤ 3)
         → Measures ms (i + 1) 0 (k + 1) (n + x + y)
     measures-put nz x y u v =
-        let long : length (entriesOf skip (drop i ms)) ≡ length (groups skip) + length (groups (getD ms i 0)) + length (entriesOf 0 (drop (i + 1) ms)) =
+        let long : length (entriesOf skip (drop i ms))
+        ≡ length (groups skip) + length (groups (getD ms i 0)) + length (entriesOf 0 (drop (i + 1) ms)) =
         ap length (entries-put ms i h nz skip)
         ∙ length-append (groups skip ++ groups (getD ms i 0)) (entriesOf 0 (drop (i + 1) ms))
         ∙ ap (λ (l : ℕ). l + length (entriesOf 0 (drop (i + 1) ms))) (length-append (groups skip) (groups (getD ms i 0))) in
@@ -196,10 +198,13 @@ module _ (set : ℕ) (ms : List ℕ) (k n : ℕ) (m : Measured ms k n) where
   pub sheet-length : (a b c : ℕ) → a ≡ length (groups (length ms)) → b ≡ length (groups set) → c ≡ length (groups k)
       → a + b + c + n ≡ length (sheetOf set ms)
   sheet-length a b c x y z =
-      omega (arith,
-      sym (ap length sheet-parts) ∙ length-append (headOf (length ms) set k) (entriesOf 0 ms),
-      length-append (groups (length ms)) (groups set ++ groups k),
-      length-append (groups set) (groups k), m .bytes)
+      omega (
+        arith,
+        sym (ap length sheet-parts) ∙ length-append (headOf (length ms) set k) (entriesOf 0 ms),
+        length-append (groups (length ms)) (groups set ++ groups k),
+        length-append (groups set) (groups k),
+        m .bytes,
+      )
 
   module _ (old : List ℕ) (room : length (sheetOf set ms) ≤ length old) where
     pub parts-fit : length (headOf (length ms) set k ++ entriesOf 0 ms) ≤ length old

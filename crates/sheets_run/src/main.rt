@@ -161,7 +161,10 @@ fn hundred(counts: &mut [u64; 12]) -> u64 {
         let set = RuleSet {
             mask: (next(k) / 128 % 512) as u16,
         };
-        bytes = std::num::wrapping_add_u64(bytes, trial(&values[0..n], set, &mut room, counts) as u64);
+        bytes = std::num::wrapping_add_u64(
+            bytes,
+            trial(&values[0..n], set, &mut room, counts) as u64,
+        );
         k += 1;
     }
     bytes
