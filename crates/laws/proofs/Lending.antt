@@ -20,8 +20,8 @@ module _ {A : Type 0} where
   regained now i part = take i now ++ (part ++ drop (length now - i) (drop i now))
 
 -- the first entries were written into the whole slice
-pub front-fills : {A : Type 0} (xs old now ys rest : List A) (n : ℕ) → xs ≡ ys ++ rest → length xs ≤ length old → now ≡ atFront ys old → n ≡ length ys
-    → Filling xs old now n
+pub front-fills : {A : Type 0} (xs old now ys rest : List A) (n : ℕ) → xs ≡ ys ++ rest → length xs ≤ length old
+    → now ≡ atFront ys old → n ≡ length ys → Filling xs old now n
 front-fills xs old now ys rest n whole room e count = record {
   within = omega (arith, ap length whole, length-append ys rest);
   room = room;
@@ -68,7 +68,8 @@ module _ {A : Type 0} (xs old now : List A) (i : ℕ) (f : Filling xs old now i)
       }
 
 -- x was written into the whole slice, and y is to go behind it
-module _ {A : Type 0} (x y old now : List A) (n : ℕ) (room : length (x ++ y) ≤ length old) (first : now ≡ atFront x old) (count : n ≡ length x) where
+module _ {A : Type 0} (x y old now : List A) (n : ℕ) (room : length (x ++ y) ≤ length old)
+    (first : now ≡ atFront x old) (count : n ≡ length x) where
   begun : Filling (x ++ y) old now n
   begun = front-fills (x ++ y) old now x y n refl room first count
 

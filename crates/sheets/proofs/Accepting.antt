@@ -78,7 +78,9 @@ module _ (limits : Limits) (set : ℕ) (values : List Float) (valid : set ≤ 51
   pub right-inside : Inside set (marksOf limits set values)
   right-inside i = by (ltb i (length values)) refl
     where
-      by : (b : Bool) → ltb i (length values) ≡ b → bitAnd (getD (marksOf limits set values) i 0) set ≡ getD (marksOf limits set values) i 0
+      by : (b : Bool) → ltb i (length values) ≡ b
+          → bitAnd (getD (marksOf limits set values) i 0) set
+          ≡ getD (marksOf limits set values) i 0
       by true b =
           let at = marks-at limits set values i (ltb-true i (length values) b) in
           rw at (marks-inside (linesOf limits) set values i)

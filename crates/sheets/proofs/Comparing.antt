@@ -38,7 +38,8 @@ module _ (s : List ℕ) (set left at k : ℕ) (e : Entry) (f : FirstEntry s set 
         ∙ ap (λ (n : ℕ). placed skip m (entries s set (k - 1) n next)) less
 
     -- its form is in order, so that of the rest decides
-    pub entry-passed : (v : Verdict) → 0 < k → unlessFault v (entries s set k left at) ≡ unlessFault v (entries s set (k - 1) (left - skip - 1) next)
+    pub entry-passed : (v : Verdict) → 0 < k
+        → unlessFault v (entries s set k left at) ≡ unlessFault v (entries s set (k - 1) (left - skip - 1) next)
     entry-passed v h = ap (unlessFault v) (entry-whole h) ∙ unless-placed v skip m (entries s set (k - 1) (left - skip - 1) next)
 
   pub entry-broken : (p : ℕ) → e ≡ Broken p → 0 < k → entries s set k left at ≡ fault p
@@ -220,7 +221,8 @@ module _ (marks s : List ℕ) (set : ℕ) (whole : Verdict) (i at k : ℕ) (c : 
     end-in true v e = refl
     end-in false v e = e
 
-    ends : (v : Verdict) → v ≡ firstWrong i (drop i marks) (replicate (length marks - i) 0) → unlessFault v (entries s set 0 (length marks - i) at) ≡ whole
+    ends : (v : Verdict) → v ≡ firstWrong i (drop i marks) (replicate (length marks - i) 0)
+        → unlessFault v (entries s set 0 (length marks - i) at) ≡ whole
     unfolding entries
     ends v e =
         let no-more : k ≡ 0 = omega arith in
@@ -232,7 +234,8 @@ module _ (marks s : List ℕ) (set : ℕ) (whole : Verdict) (i at k : ℕ) (c : 
     compares-rest found told h =
         let one : length marks - i ≡ suc (length marks - 1 - i) = omega arith in
         ends found
-        (told ∙ sym (ap (λ (n : ℕ). firstWrong i (drop i marks) (replicate n 0)) one ∙ ap (firstWrong i (drop i marks)) (snoc (length marks - 1 - i))))
+        (told
+        ∙ sym (ap (λ (n : ℕ). firstWrong i (drop i marks) (replicate n 0)) one ∙ ap (firstWrong i (drop i marks)) (snoc (length marks - 1 - i))))
       where
         snoc : (n : ℕ) → replicate {A = ℕ} (suc n) 0 ≡ replicate n 0 ++ (0 ∷ [])
         snoc zero = refl

@@ -6,7 +6,7 @@
 -- The last part says the same of whatever the promises of `check` and `write` allow. Assumes nothing.
 use Prim.Native.Nat.{ℕ, suc, _≤_, _<_}
 use native.Mathlib.Omega.{arith}
-use mathlib.Core.Path.{_≡_, refl, sym, ap, ap₂, _∙_, subst}
+use mathlib.Core.Path.{_≡_, refl, sym, ap, _∙_}
 use mathlib.Core.Bool.{true, _&&_}
 use mathlib.Core.Logic.{_↔_}
 use mathlib.Core.List.{List}
@@ -26,11 +26,10 @@ use Rattle.rules.specs.Finite.{finiteLimits, allFinite}
 use Rattle.rules.specs.Marking.{newestFirst, stands, marksOf}
 use Rattle.rules.proofs.Accepted.{accepts}
 use Rattle.rules.proofs.Meaning.{marked, length-marks, marks-at}
-use Rattle.sheets.specs.declared.Checked.{Checked}
 use Rattle.sheets.specs.declared.Checked.the-variants.{Accepted}
 use Rattle.sheets.specs.declared.Written.the-variants.{Sheet}
-use Rattle.sheets.specs.Said.{Said, sheet, said}
-use Rattle.sheets.specs.Answers.{Verdict, checked, written, refusal, checkOf, seriesSheet, writeOf, roomAfter}
+use Rattle.sheets.specs.Said.{sheet, said}
+use Rattle.sheets.specs.Answers.{Verdict, checked, refusal, checkOf, seriesSheet, writeOf, roomAfter}
 use Rattle.sheets.proofs.Sheets.{said-written, said-sound}
 use Rattle.sheets.proofs.Judging.{check-done, write-done, room-done}
 use Rattle.sheets.proofs.Answers.{checked-one, written-one}
@@ -123,19 +122,22 @@ module _ (limits : Limits) (set : ℕ) (values : List Float)
 -- ---- the same of the two functions: `Post` is what each promises of its result and of the lent room, told its arguments
 
 -- (a), and with it (b): `check` answers `Accepted` exactly for the right sheet
-module _ (κs : Lfts 2) (a : Dens κs check-kinds.ps) (x : resT check-kinds.r κs .Denot) (s : AtExit (endedOf 2 check-kinds.ps check-kinds.r) κs)
+module _ (κs : Lfts 2) (a : Dens κs check-kinds.ps) (x : resT check-kinds.r κs .Denot)
+    (s : AtExit (endedOf 2 check-kinds.ps check-kinds.r) κs)
     (promised : check.Post κs a x s) where
   pub check-accepts : (x ≡ Accepted) ↔ (checkOf (a .1 .0) (a .1 .1 .0 .mask) (a .0 .now) (a .1 .1 .1 .0 .now) ≡ accepted)
   check-accepts = ((λ e. sym promised ∙ ap checked e), (λ e. checked-one x Accepted (promised ∙ e)))
 
-  pub check-accepts-exactly : length (a .0 .now) ≤ 4096 → a .1 .1 .0 .mask ≤ 511 → finiteLimits (a .1 .0) ≡ true → allFinite (a .0 .now) ≡ true
-      → Bytes (a .1 .1 .1 .0 .now) → (x ≡ Accepted) ↔ Right (a .1 .0) (a .1 .1 .0 .mask) (a .0 .now) (a .1 .1 .1 .0 .now)
+  pub check-accepts-exactly : length (a .0 .now) ≤ 4096 → a .1 .1 .0 .mask ≤ 511
+      → finiteLimits (a .1 .0) ≡ true → allFinite (a .0 .now) ≡ true → Bytes (a .1 .1 .1 .0 .now)
+      → (x ≡ Accepted) ↔ Right (a .1 .0) (a .1 .1 .0 .mask) (a .0 .now) (a .1 .1 .1 .0 .now)
   check-accepts-exactly few valid sound finite is-bytes =
       let both = accepted-exactly (a .1 .0) (a .1 .1 .0 .mask) (a .0 .now) few valid sound finite (a .1 .1 .1 .0 .now) is-bytes in
       ((λ e. both .0 (check-accepts .0 e)), (λ r. check-accepts .1 (both .1 r)))
 
 -- (c): `write` leaves that sheet in every room that holds it
-pub write-gives-it : (κs : Lfts 2) (a : Dens κs write-kinds.ps) (x : resT write-kinds.r κs .Denot) (s : AtExit (endedOf 2 write-kinds.ps write-kinds.r) κs)
+pub write-gives-it : (κs : Lfts 2) (a : Dens κs write-kinds.ps) (x : resT write-kinds.r κs .Denot)
+    (s : AtExit (endedOf 2 write-kinds.ps write-kinds.r) κs)
     → write.Post κs a x s
     → length (a .0 .now) ≤ 4096 → a .1 .1 .0 .mask ≤ 511 → finiteLimits (a .1 .0) ≡ true → allFinite (a .0 .now) ≡ true
     → length (seriesSheet (a .1 .0) (a .1 .1 .0 .mask) (a .0 .now)) ≤ length (a .1 .1 .1 .0 .now)

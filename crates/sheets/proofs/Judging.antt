@@ -1,15 +1,15 @@
 -- The checker's answer from the head, the entries and the right marks; and what checking and writing answer and leave behind marking's
 -- refusals. Assumes nothing.
-use Prim.Native.Nat.{ℕ, suc, _≤_, _<_}
+use Prim.Native.Nat.{ℕ, suc}
 use native.Mathlib.Omega.{arith}
-use mathlib.Core.Path.{_≡_, refl, sym, ap, ap₂, _∙_, subst}
+use mathlib.Core.Path.{_≡_, refl, sym, ap, ap₂, _∙_}
 use mathlib.Core.Bool.{Bool, true, false, not, _&&_, cond}
 use mathlib.Core.List.{List, [], _∷_}
 use lib.Dec.{eqb, ltb, leb}
 use lib.Ieee.{Float}
-use lib.ListN.{length, take, drop, replicate, length-replicate}
+use lib.ListN.{length, take, drop}
 use lib.Seq.{take-at}
-use borrow.Author.Tests.{lt-ltb, le-ltb, ltb-true, ltb-false, le-leb, lt-leb, leb-true, leb-false, eq-eqb, ne-eqb, eqb-true, eqb-false}
+use borrow.Author.Tests.{lt-ltb, le-ltb, leb-true, leb-false, eq-eqb, ne-eqb, eqb-true}
 use Rattle.laws.specs.Refusals.{firstOf}
 use Rattle.laws.specs.Front.{atFrontIfRoom}
 use Rattle.laws.proofs.Refusals.{passed, refused}
@@ -21,11 +21,10 @@ use Rattle.rules.specs.Marking.{numbered, answerOf, marksOf, marksAfter}
 use Rattle.rules.proofs.Meaning.{length-marks}
 use Rattle.sheets.specs.declared.reader.Head.{Head}
 use Rattle.sheets.specs.declared.reader.Head.the-variants.{Names, Faulty}
-use Rattle.sheets.specs.Sheet.{sheetOf}
 use Rattle.sheets.specs.Said.{Said, fault, sheet, entries, said}
-use Rattle.sheets.specs.Answers.{Verdict, refusal, firstWrong, judged, checkOf, seriesSheet, writeOf, roomAfter}
+use Rattle.sheets.specs.Answers.{refusal, firstWrong, judged, checkOf, seriesSheet, writeOf, roomAfter}
 use Rattle.sheets.specs.Steps.{afterHead, unlessFault, against, roomFor}
-use Rattle.sheets.proofs.Sheets.{Holds, entries-hold}
+use Rattle.sheets.proofs.Sheets.{entries-hold}
 
 -- ---- 9, then 10, then 11
 
@@ -49,7 +48,8 @@ module _ (s : List ℕ) (bytes : Bytes s) (set : ℕ) (right : List ℕ) (h : He
     body : said s ≡ entries s t k n q
     body = told ∙ ap (afterHead s) is
 
-    other-in : ((n ≡ length right) × (t ≡ set) → ⊥) → (r : Said) → entries s t k n q ≡ r → unlessFault (10, 0, 0, 0) r ≡ judged set right r
+    other-in : ((n ≡ length right) × (t ≡ set) → ⊥) → (r : Said) → entries s t k n q ≡ r
+        → unlessFault (10, 0, 0, 0) r ≡ judged set right r
     other-in z (fault p) e = refl
     other-in z (sheet u ms) e =
         let holds = entries-hold s t k n q u ms bytes e in
@@ -76,7 +76,8 @@ module _ (s : List ℕ) (bytes : Bytes s) (set : ℕ) (right : List ℕ) (h : He
 -- ---- behind marking's refusals
 
 -- 6 exactly where the room is shorter than the sheet
-in-room : (bytes : List ℕ) (room : ℕ) → firstOf {A = ℕ × ℕ} ((ltb room (length bytes), (6, 0)) ∷ []) (0, length bytes) ≡ roomFor bytes room
+in-room : (bytes : List ℕ) (room : ℕ)
+    → firstOf {A = ℕ × ℕ} ((ltb room (length bytes), (6, 0)) ∷ []) (0, length bytes) ≡ roomFor bytes room
 unfolding firstOf
 in-room bytes room = by (leb (length bytes) room) refl
   where
@@ -131,12 +132,14 @@ module _ (limits : Limits) (set : ℕ) (values : List Float) where
 
   module _ (done : refusal limits set values ≡ 0) where
     -- the marks at the front of a slice of 4,096
-    pub marks-front : (old : List ℕ) → length old ≡ 4096 → take (length values) (marksAfter limits set values old) ≡ marksOf limits set values
+    pub marks-front : (old : List ℕ) → length old ≡ 4096
+        → take (length values) (marksAfter limits set values old) ≡ marksOf limits set values
     unfolding marksAfter
     marks-front old l =
         let yes : eqb (answerOf limits set values (length old)) 0 ≡ true =
         eq-eqb _ 0 (ap (answerOf limits set values) l ∙ room-enough ∙ done) in
-        simp yes (take-at (marksOf limits set values) (drop (length (marksOf limits set values)) old) (length values) (length-marks limits set values))
+        simp yes
+        (take-at (marksOf limits set values) (drop (length (marksOf limits set values)) old) (length values) (length-marks limits set values))
 
     pub check-done : (s : List ℕ) → judged set (marksOf limits set values) (said s) ≡ checkOf limits set values s
     unfolding checkOf firstOf

@@ -3,7 +3,7 @@ use Prim.Native.Nat.{ℕ, zero, suc, _+_, _≤_}
 use native.Mathlib.Omega.{arith}
 use native.Mathlib.Nat.{zero-add}
 use mathlib.Core.Path.{_≡_, refl, sym, ap, _∙_}
-use mathlib.Core.Bool.{Bool, true, false, not}
+use mathlib.Core.Bool.{Bool, true, false}
 use mathlib.Core.List.{List, [], _∷_, _++_}
 use lib.Dec.{eqb}
 use lib.ListN.{length, replicate}
@@ -44,7 +44,8 @@ pub entriesOf-zero : (skipped : ℕ) (ms : List ℕ) → entriesOf skipped (0 �
 unfolding entriesOf
 entriesOf-zero skipped ms = refl
 
-pub entriesOf-mark : (skipped m : ℕ) (ms : List ℕ) → (m ≡ 0 → ⊥) → entriesOf skipped (m ∷ ms) ≡ groups skipped ++ (groups m ++ entriesOf 0 ms)
+pub entriesOf-mark : (skipped m : ℕ) (ms : List ℕ) → (m ≡ 0 → ⊥)
+    → entriesOf skipped (m ∷ ms) ≡ groups skipped ++ (groups m ++ entriesOf 0 ms)
 unfolding entriesOf
 entriesOf-mark skipped m ms h = rw (ne-eqb m 0 h, entriesOf)
 

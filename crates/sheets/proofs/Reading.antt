@@ -35,7 +35,8 @@ not-fault e = not-number (sym e)
 
 module _ (most at : ℕ) (rest : ℕ → ℕ → Said) where
   -- it was read, and the rest is said behind it
-  went-on : (r : Reading) (v next : ℕ) → atMost most at r ≡ Number v next → (onward (λ n. leb n most) at rest r ≡ rest v next) × (v ≤ most)
+  went-on : (r : Reading) (v next : ℕ) → atMost most at r ≡ Number v next
+      → (onward (λ n. leb n most) at rest r ≡ rest v next) × (v ≤ most)
   went-on (Fault p) v next e = not-number e
   went-on (Number w p) v next e = by (leb w most) refl e
     where
@@ -57,7 +58,8 @@ module _ (most at : ℕ) (rest : ℕ → ℕ → Said) where
       by true f = not-fault f
       by false f = refl
 
-  pub number-read : (s : List ℕ) (v next : ℕ) → atMost most at (numberAt s at) ≡ Number v next → number (λ n. leb n most) s at rest ≡ rest v next
+  pub number-read : (s : List ℕ) (v next : ℕ) → atMost most at (numberAt s at) ≡ Number v next
+      → number (λ n. leb n most) s at rest ≡ rest v next
   number-read s v next e = went-on (numberAt s at) v next e .0
 
   pub number-fault : (s : List ℕ) (p : ℕ) → atMost most at (numberAt s at) ≡ Fault p → number (λ n. leb n most) s at rest ≡ fault at

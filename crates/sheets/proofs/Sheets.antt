@@ -3,7 +3,7 @@ use Prim.Native.Nat.{ℕ, zero, suc, _+_, _-_, _^_, _≤_, _<_}
 use native.Mathlib.Omega.{arith}
 use native.Mathlib.Nat.{add-zero}
 use mathlib.Core.Path.{_≡_, refl, sym, ap, ap₂, _∙_, subst}
-use mathlib.Core.Bool.{Bool, true, false, not, _&&_, cond}
+use mathlib.Core.Bool.{Bool, true, false, cond}
 use mathlib.Core.List.{List, [], _∷_, _++_}
 use lib.Bits.{bitAnd, and-le-r, and-zero-l}
 use lib.Dec.{ltb, leb, eqb}
@@ -16,7 +16,8 @@ use Rattle.groups.specs.Groups.{groups, numberAt}
 use Rattle.groups.proofs.Numbers.{Bytes, read-there, written-read}
 use Rattle.sheets.specs.Sheet.{marked, entriesOf, sheetOf}
 use Rattle.sheets.specs.Said.{Said, fault, sheet, onward, number, isPart, placed, entries, saidFrom}
-use Rattle.sheets.proofs.Points.{marked-none, marked-zero, marked-suc, marked-le, entriesOf-none, entriesOf-zero, entriesOf-mark, marked-zeros, entriesOf-zeros, zeros-snoc, zeros-only}
+use Rattle.sheets.proofs.Points.{marked-none, marked-zero, marked-suc, marked-le, marked-zeros, zeros-snoc, zeros-only}
+use Rattle.sheets.proofs.Points.{entriesOf-none, entriesOf-zero, entriesOf-mark, entriesOf-zeros}
 
 -- every point's marks are inside the set
 abbrev pub Inside : ℕ → List ℕ → Type 0
@@ -28,7 +29,8 @@ module _ (s : List ℕ) (at v : ℕ) (tail : List ℕ) (there : drop at s ≡ gr
   past : drop (at + length (groups v)) s ≡ tail
   past = sym (drop-drop (length (groups v)) at s) ∙ ap (drop (length (groups v))) there ∙ drop-append-seam (groups v) tail
 
-  number-says : (ok : ℕ → Bool) (rest : ℕ → ℕ → Said) → v < 2 ^ 64 → ok v ≡ true → number ok s at rest ≡ rest v (at + length (groups v))
+  number-says : (ok : ℕ → Bool) (rest : ℕ → ℕ → Said) → v < 2 ^ 64 → ok v ≡ true
+      → number ok s at rest ≡ rest v (at + length (groups v))
   number-says ok rest h t =
       ap (onward ok at rest) (read-there s at v tail h there)
       ∙ ap (λ (b : Bool). cond b (rest v (at + length (groups v))) (fault at)) t
@@ -55,7 +57,8 @@ module _ (s : List ℕ) (set : ℕ) (low : set < 2 ^ 64) where
 
   point-says : (t : Bool) (m : ℕ) → eqb m 0 ≡ t → (ms : List ℕ) → bitAnd m set ≡ m → (gap at : ℕ) → gap + suc (length ms) < 2 ^ 64
       → drop at s ≡ entriesOf gap (m ∷ ms)
-      → ((g p : ℕ) → g + length ms < 2 ^ 64 → drop p s ≡ entriesOf g ms → entries s set (marked ms) (g + length ms) p ≡ sheet set (replicate g 0 ++ ms))
+      → ((g p : ℕ) → g + length ms < 2 ^ 64 → drop p s ≡ entriesOf g ms
+      → entries s set (marked ms) (g + length ms) p ≡ sheet set (replicate g 0 ++ ms))
       → entries s set (marked (m ∷ ms)) (gap + suc (length ms)) at ≡ sheet set (replicate gap 0 ++ (m ∷ ms))
   point-says true m t ms part gap at h there ih =
       let z : m ≡ 0 = eqb-true m 0 t in
@@ -78,7 +81,8 @@ module _ (s : List ℕ) (set : ℕ) (low : set < 2 ^ 64) where
       point-says (eqb m 0) m refl ms (inside 0) gap at h there (λ g p. entries-say ms (λ i. inside (suc i)) g p)
 
 -- the sheet of a set and of marks inside it says these, wherever it begins
-pub said-written : (most top set : ℕ) (ms s : List ℕ) (at : ℕ) → set ≤ top → top < 2 ^ 64 → length ms ≤ most → most < 2 ^ 64 → Inside set ms
+pub said-written : (most top set : ℕ) (ms s : List ℕ) (at : ℕ)
+    → set ≤ top → top < 2 ^ 64 → length ms ≤ most → most < 2 ^ 64 → Inside set ms
     → drop at s ≡ sheetOf set ms → saidFrom most top s at ≡ sheet set ms
 unfolding saidFrom sheetOf
 said-written most top set ms s at low bound few many inside there =
@@ -89,7 +93,8 @@ said-written most top set ms s at low bound few many inside there =
     let fourth = past s r (marked ms) (entriesOf 0 ms) third in
     let none : 0 + length ms ≡ length ms = omega arith in
     let fewer : marked ms ≤ length ms = marked-le ms in
-    number-says s at (length ms) (groups set ++ (groups (marked ms) ++ entriesOf 0 ms)) there (λ n. leb n most) _ (omega arith) (le-leb (length ms) most few)
+    number-says s at (length ms) (groups set ++ (groups (marked ms) ++ entriesOf 0 ms)) there (λ n. leb n most) _ (omega arith)
+    (le-leb (length ms) most few)
     ∙ number-says s q set (groups (marked ms) ++ entriesOf 0 ms) second (λ t. leb t top) _ (omega arith) (le-leb set top low)
     ∙ number-says s r (marked ms) (entriesOf 0 ms) third (λ k. leb k (length ms)) _ (omega arith) (le-leb (marked ms) (length ms) fewer)
     ∙ rw none at (entries-say s set (omega arith) ms inside 0 (r + length (groups (marked ms))) (omega arith) fourth)
@@ -164,7 +169,8 @@ holds-end s set left at t ms false b e =
     let is : replicate left 0 ++ [] ≡ ms = sym (zeros-only left) ∙ (let f : replicate left 0 ≡ ms = cc in f) in
     record {
       set-is = cc;
-      points = ap length (sym is) ∙ length-append (replicate left 0) [] ∙ add-zero (length (replicate {A = ℕ} left 0)) ∙ length-replicate left 0;
+      points =
+          ap length (sym is) ∙ length-append (replicate left 0) [] ∙ add-zero (length (replicate {A = ℕ} left 0)) ∙ length-replicate left 0;
       count = ap marked (sym is) ∙ marked-zeros left [] ∙ marked-none;
       inside = subst (Inside set) is (inside-zeros set left [] (λ i. and-zero-l set));
       string =
@@ -186,10 +192,12 @@ holds-more s set k left at t skip m next l ms h nz part is there r =
       string =
           there
           ∙ ap (λ (x : List ℕ). groups skip ++ (groups m ++ x)) (r .string)
-          ∙ sym (ap (entriesOf 0) (sym is) ∙ entriesOf-zeros skip 0 (m ∷ l) ∙ ap (λ (n : ℕ). entriesOf n (m ∷ l)) none ∙ entriesOf-mark skip m l nz);
+          ∙ sym (ap (entriesOf 0) (sym is) ∙ entriesOf-zeros skip 0 (m ∷ l) ∙ ap (λ (n : ℕ). entriesOf n (m ∷ l)) none
+          ∙ entriesOf-mark skip m l nz);
     }
 
-pub entries-hold : (s : List ℕ) (set k left at t : ℕ) (ms : List ℕ) → Bytes s → entries s set k left at ≡ sheet t ms → Holds s set k left at t ms
+pub entries-hold : (s : List ℕ) (set k left at t : ℕ) (ms : List ℕ) → Bytes s → entries s set k left at ≡ sheet t ms
+    → Holds s set k left at t ms
 unfolding entries
 entries-hold s set zero left at t ms bytes e = holds-end s set left at t ms (ltb at (length s)) refl e
 entries-hold s set (suc k) left at t ms bytes e =
@@ -211,7 +219,8 @@ pub record IsSheet (most top : ℕ) (s : List ℕ) (at set : ℕ) (ms : List ℕ
   pub string : drop at s ≡ sheetOf set ms
 
 -- bytes that are well formed are the one sheet of what they say
-pub said-sound : (most top : ℕ) (s : List ℕ) (at set : ℕ) (ms : List ℕ) → Bytes s → saidFrom most top s at ≡ sheet set ms → IsSheet most top s at set ms
+pub said-sound : (most top : ℕ) (s : List ℕ) (at set : ℕ) (ms : List ℕ) → Bytes s → saidFrom most top s at ≡ sheet set ms
+    → IsSheet most top s at set ms
 unfolding saidFrom sheetOf
 said-sound most top s at set ms bytes e =
     let a = took (λ n. leb n most) s at _ set ms bytes e in

@@ -1,5 +1,5 @@
 -- The turns of the writer's loops, which measure the entries and write them, and the sheet put together. Assumes nothing.
-use Prim.Native.Nat.{ℕ, zero, suc, _+_, _*_, _/_, _≤_, _<_}
+use Prim.Native.Nat.{ℕ, suc, _+_, _*_, _/_, _≤_, _<_}
 use native.Mathlib.Omega.{arith}
 use mathlib.Core.Path.{_≡_, refl, sym, ap, ap₂, _∙_}
 use mathlib.Core.List.{List, [], _∷_, _++_, append-assoc}
@@ -93,10 +93,12 @@ module _ (ms : List ℕ) (i skip k n : ℕ) (p : Measures ms i skip k n) where
       bytes = omega (arith, p .bytes, ap length (entries-skip ms i h z skip));
     }
 
-    pub measures-put : (getD ms i 0 ≡ 0 → ⊥) → (x y : ℕ) → (x ≡ length (groups skip)) × (x ≤ 3) → (y ≡ length (groups (getD ms i 0))) × (y ≤ 3)
+    pub measures-put : (getD ms i 0 ≡ 0 → ⊥) → (x y : ℕ) → (x ≡ length (groups skip)) × (x ≤ 3)
+        → (y ≡ length (groups (getD ms i 0))) × (y ≤ 3)
         → Measures ms (i + 1) 0 (k + 1) (n + x + y)
     measures-put nz x y u v =
-        let long : length (entriesOf skip (drop i ms)) ≡ length (groups skip) + length (groups (getD ms i 0)) + length (entriesOf 0 (drop (i + 1) ms)) =
+        let long : length (entriesOf skip (drop i ms))
+        ≡ length (groups skip) + length (groups (getD ms i 0)) + length (entriesOf 0 (drop (i + 1) ms)) =
         ap length (entries-put ms i h nz skip)
         ∙ length-append (groups skip ++ groups (getD ms i 0)) (entriesOf 0 (drop (i + 1) ms))
         ∙ ap (λ (l : ℕ). l + length (entriesOf 0 (drop (i + 1) ms))) (length-append (groups skip) (groups (getD ms i 0))) in

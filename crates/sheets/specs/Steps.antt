@@ -1,6 +1,6 @@
 -- What the parts of the checker and of the writer find and leave. Nothing here has to be believed: the proofs tie it to Said.antt and
 -- Sheet.antt. Definitions only.
-use mathlib.Core.Bool.{Bool, true, false, cond}
+use mathlib.Core.Bool.{cond}
 use mathlib.Core.Path.{_≡_}
 use mathlib.Core.List.{List}
 use Prim.Native.Nat.{ℕ, suc, _-_, _*_, _≤_, _<_}

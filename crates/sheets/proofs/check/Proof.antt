@@ -1,7 +1,7 @@
 -- `sheets::check` meets its contract: marking refuses first, and else its marks are the right ones. Assumes nothing.
-use Prim.Native.Nat.{ℕ, _-_, _≤_}
+use Prim.Native.Nat.{ℕ, _-_}
 use native.Mathlib.Omega.{arith}
-use mathlib.Core.Path.{_≡_, refl, sym, ap, ap₂, _∙_}
+use mathlib.Core.Path.{_≡_, ap, ap₂, _∙_}
 use mathlib.Core.List.{List}
 use lib.ListN.{length, take, replicate, length-replicate}
 use Rattle.rules.specs.declared.Marked.the-variants.{Done, TooMany, SetTooLarge, NotFinite, TooShort}
@@ -31,9 +31,13 @@ part-check-marks-start c = search needs
 
 part-check-marks-end : tie.Need-part-check-marks-end
 part-check-marks-end c =
-    let done = refusal-is (c .before .before .before .before .before .before .before .before .args .limits) (c .before .before .before .before .before .before .before .before .args .set .mask) (c .before .before .before .before .before .before .before .before .args .values .now) (replicate 4096 0) (c .before .before .before .before .mark .result) Done (length-replicate {A = ℕ} 4096 0) (c .before .before .before .before .mark .ensures .0) (c .before .enum-told .given .1) in
-    let few = was-accepted (c .before .before .before .before .before .before .before .before .args .limits) (c .before .before .before .before .before .before .before .before .args .set .mask) (c .before .before .before .before .before .before .before .before .args .values .now) (length (c .before .before .before .before .before .before .before .before .args .values .now)) done .few in
-    omega (arith, c .before .before .before .before .mark .kept .1 .1 .1 .0)
+    let args = c .before .before .before .before .before .before .before .before .args in
+    let mark = c .before .before .before .before .mark in
+    let enum-told = c .before .enum-told in
+    let done = refusal-is (args .limits) (args .set .mask) (args .values .now) (replicate 4096 0) (mark .result) Done
+    (length-replicate {A = ℕ} 4096 0) (mark .ensures .0) (enum-told .given .1) in
+    let few = was-accepted (args .limits) (args .set .mask) (args .values .now) (length (args .values .now)) done .few in
+    omega (arith, mark .kept .1 .1 .1 .0)
 
 check-marks-requires : tie.Need-check-marks-requires
 check-marks-requires c κs = search needs
@@ -52,25 +56,55 @@ enum-told-5 c = search needs
 
 returns : tie.Need-returns
 returns c =
-    let done = refusal-is (c .before .before .before .before .before .before .before .before .before .before .args .limits) (c .before .before .before .before .before .before .before .before .before .before .args .set .mask) (c .before .before .before .before .before .before .before .before .before .before .args .values .now) (replicate 4096 0) (c .before .before .before .before .before .before .mark .result) Done (length-replicate {A = ℕ} 4096 0) (c .before .before .before .before .before .before .mark .ensures .0) (c .before .before .before .enum-told .given .1) in
-    let all : length (c .before .before .before .before .before .before .before .before .before .before .args .values .now) - 0 ≡ length (c .before .before .before .before .before .before .before .before .before .before .args .values .now) = omega arith in
-    let marks : take (length (c .before .before .before .before .before .before .before .before .before .before .args .values .now) - 0) (c .before .before .before .before .before .before .mark .last .1 .1 .1 .0) ≡ marksOf (c .before .before .before .before .before .before .before .before .before .before .args .limits) (c .before .before .before .before .before .before .before .before .before .before .args .set .mask) (c .before .before .before .before .before .before .before .before .before .before .args .values .now) =
-    ap₂ take all (c .before .before .before .before .before .before .mark .ensures .1) ∙ marks-front (c .before .before .before .before .before .before .before .before .before .before .args .limits) (c .before .before .before .before .before .before .before .before .before .before .args .set .mask) (c .before .before .before .before .before .before .before .before .before .before .args .values .now) done (replicate 4096 0) (length-replicate {A = ℕ} 4096 0) in
-    c .check-marks .ensures
-    ∙ ap (λ (l : List ℕ). judged (c .before .before .before .before .before .before .before .before .before .before .args .set .mask) l (said (c .before .before .before .before .before .before .before .before .before .before .args .sheet .now))) marks
-    ∙ check-done (c .before .before .before .before .before .before .before .before .before .before .args .limits) (c .before .before .before .before .before .before .before .before .before .before .args .set .mask) (c .before .before .before .before .before .before .before .before .before .before .args .values .now) done (c .before .before .before .before .before .before .before .before .before .before .args .sheet .now)
+    let args = c .before .before .before .before .before .before .before .before .before .before .args in
+    let mark = c .before .before .before .before .before .before .mark in
+    let enum-told = c .before .before .before .enum-told in
+    let check-marks = c .check-marks in
+    let done = refusal-is (args .limits) (args .set .mask) (args .values .now) (replicate 4096 0) (mark .result) Done
+    (length-replicate {A = ℕ} 4096 0) (mark .ensures .0) (enum-told .given .1) in
+    let all : length (args .values .now) - 0 ≡ length (args .values .now) = omega arith in
+    let marks : take (length (args .values .now) - 0) (mark .last .1 .1 .1 .0) ≡ marksOf (args .limits) (args .set .mask) (args .values .now) =
+    ap₂ take all (mark .ensures .1) ∙ marks-front (args .limits) (args .set .mask) (args .values .now) done (replicate 4096 0)
+    (length-replicate {A = ℕ} 4096 0) in
+    check-marks .ensures
+    ∙ ap (λ (l : List ℕ). judged (args .set .mask) l (said (args .sheet .now))) marks
+    ∙ check-done (args .limits) (args .set .mask) (args .values .now) done (args .sheet .now)
 
 returns-2 : tie.Need-returns-2
-returns-2 c = check-refused (c .before .before .before .before .before .before .before .args .limits) (c .before .before .before .before .before .before .before .args .set .mask) (c .before .before .before .before .before .before .before .args .values .now) 4 (refusal-is (c .before .before .before .before .before .before .before .args .limits) (c .before .before .before .before .before .before .before .args .set .mask) (c .before .before .before .before .before .before .before .args .values .now) (replicate 4096 0) (c .before .before .before .mark .result) TooMany (length-replicate {A = ℕ} 4096 0) (c .before .before .before .mark .ensures .0) (c .enum-told2 .given .1)) (c .before .before .before .before .before .before .before .args .sheet .now)
+returns-2 c =
+    let args = c .before .before .before .before .before .before .before .args in
+    let mark = c .before .before .before .mark in
+    let enum-told2 = c .enum-told2 in
+    check-refused (args .limits) (args .set .mask) (args .values .now) 4
+    (refusal-is (args .limits) (args .set .mask) (args .values .now) (replicate 4096 0) (mark .result) TooMany (length-replicate {A = ℕ} 4096 0)
+    (mark .ensures .0) (enum-told2 .given .1)) (args .sheet .now)
 
 returns-3 : tie.Need-returns-3
-returns-3 c = check-refused (c .before .before .before .before .before .before .before .args .limits) (c .before .before .before .before .before .before .before .args .set .mask) (c .before .before .before .before .before .before .before .args .values .now) 3 (refusal-is (c .before .before .before .before .before .before .before .args .limits) (c .before .before .before .before .before .before .before .args .set .mask) (c .before .before .before .before .before .before .before .args .values .now) (replicate 4096 0) (c .before .before .before .mark .result) SetTooLarge (length-replicate {A = ℕ} 4096 0) (c .before .before .before .mark .ensures .0) (c .enum-told3 .given .1)) (c .before .before .before .before .before .before .before .args .sheet .now)
+returns-3 c =
+    let args = c .before .before .before .before .before .before .before .args in
+    let mark = c .before .before .before .mark in
+    let enum-told3 = c .enum-told3 in
+    check-refused (args .limits) (args .set .mask) (args .values .now) 3
+    (refusal-is (args .limits) (args .set .mask) (args .values .now) (replicate 4096 0) (mark .result) SetTooLarge
+    (length-replicate {A = ℕ} 4096 0) (mark .ensures .0) (enum-told3 .given .1)) (args .sheet .now)
 
 returns-4 : tie.Need-returns-4
-returns-4 c = check-refused (c .before .before .before .before .before .before .before .args .limits) (c .before .before .before .before .before .before .before .args .set .mask) (c .before .before .before .before .before .before .before .args .values .now) 2 (refusal-is (c .before .before .before .before .before .before .before .args .limits) (c .before .before .before .before .before .before .before .args .set .mask) (c .before .before .before .before .before .before .before .args .values .now) (replicate 4096 0) (c .before .before .before .mark .result) NotFinite (length-replicate {A = ℕ} 4096 0) (c .before .before .before .mark .ensures .0) (c .enum-told4 .given .1)) (c .before .before .before .before .before .before .before .args .sheet .now)
+returns-4 c =
+    let args = c .before .before .before .before .before .before .before .args in
+    let mark = c .before .before .before .mark in
+    let enum-told4 = c .enum-told4 in
+    check-refused (args .limits) (args .set .mask) (args .values .now) 2
+    (refusal-is (args .limits) (args .set .mask) (args .values .now) (replicate 4096 0) (mark .result) NotFinite
+    (length-replicate {A = ℕ} 4096 0) (mark .ensures .0) (enum-told4 .given .1)) (args .sheet .now)
 
 returns-5 : tie.Need-returns-5
-returns-5 c = absurd (never-short (c .before .before .before .before .before .before .before .args .limits) (c .before .before .before .before .before .before .before .args .set .mask) (c .before .before .before .before .before .before .before .args .values .now) (refusal-is (c .before .before .before .before .before .before .before .args .limits) (c .before .before .before .before .before .before .before .args .set .mask) (c .before .before .before .before .before .before .before .args .values .now) (replicate 4096 0) (c .before .before .before .mark .result) TooShort (length-replicate {A = ℕ} 4096 0) (c .before .before .before .mark .ensures .0) (c .enum-told5 .given .1)))
+returns-5 c =
+    let args = c .before .before .before .before .before .before .before .args in
+    let mark = c .before .before .before .mark in
+    let enum-told5 = c .enum-told5 in
+    absurd (never-short (args .limits) (args .set .mask) (args .values .now)
+    (refusal-is (args .limits) (args .set .mask) (args .values .now) (replicate 4096 0) (mark .result) TooShort (length-replicate {A = ℕ} 4096 0)
+    (mark .ensures .0) (enum-told5 .given .1)))
 
 pub check-spec : {M : Type 1} → statement M
 check-spec =

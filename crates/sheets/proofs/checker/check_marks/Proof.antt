@@ -1,5 +1,5 @@
 -- `sheets::checker::check_marks` meets its contract: the form, then points and set, then the marks. Assumes nothing.
-use mathlib.Core.Path.{_≡_, refl, sym, ap, ap₂, _∙_}
+use mathlib.Core.Path.{_∙_}
 use Rattle.sheets.proofs.Judging.{judged-faulty, judged-other, judged-same}
 use borrow.Author.Needs.{needs}
 use Rattle.sheets.proofs.checker.check_marks.Statement.{statement}
@@ -18,22 +18,56 @@ settle-requires : tie.Need-settle-requires
 settle-requires c κs = search needs
 
 returns : tie.Need-returns
-returns c = c .settle .ensures ∙ judged-other (c .before .before .before .before .before .before .before .before .args .s .now) (λ i. c .before .before .before .before .before .before .shared-slice-known2 .given i .fits) (c .before .before .before .before .before .before .before .before .args .set) (c .before .before .before .before .before .before .before .before .args .marks .now) (c .before .before .before .before .before .read-head .result) (c .before .before .before .before .before .read-head .ensures) (c .before .before .before .points .given .0 .0) (c .before .before .before .points .given .0 .1 .0) (c .before .before .before .points .given .0 .1 .1 .0) (c .before .before .before .points .given .0 .1 .1 .1 .0) (c .before .before .before .points .given .1) (λ e. c .before .if1 .taken (e .0))
+returns c =
+    let args = c .before .before .before .before .before .before .before .before .args in
+    let shared-slice-known2 = c .before .before .before .before .before .before .shared-slice-known2 in
+    let read-head = c .before .before .before .before .before .read-head in
+    let points = c .before .before .before .points in
+    let if1 = c .before .if1 in
+    let settle = c .settle in
+    settle .ensures ∙ judged-other (args .s .now) (λ i. shared-slice-known2 .given i .fits) (args .set) (args .marks .now) (read-head .result)
+    (read-head .ensures) (points .given .0 .0) (points .given .0 .1 .0) (points .given .0 .1 .1 .0) (points .given .0 .1 .1 .1 .0)
+    (points .given .1) (λ e. if1 .taken (e .0))
 
 settle-requires-2 : tie.Need-settle-requires-2
 settle-requires-2 c κs = search needs
 
 returns-2 : tie.Need-returns-2
-returns-2 c = c .settle2 .ensures ∙ judged-other (c .before .before .before .before .before .before .before .before .before .args .s .now) (λ i. c .before .before .before .before .before .before .before .shared-slice-known2 .given i .fits) (c .before .before .before .before .before .before .before .before .before .args .set) (c .before .before .before .before .before .before .before .before .before .args .marks .now) (c .before .before .before .before .before .before .read-head .result) (c .before .before .before .before .before .before .read-head .ensures) (c .before .before .before .before .points .given .0 .0) (c .before .before .before .before .points .given .0 .1 .0) (c .before .before .before .before .points .given .0 .1 .1 .0) (c .before .before .before .before .points .given .0 .1 .1 .1 .0) (c .before .before .before .before .points .given .1) (λ e. c .before .if2 .taken (e .1))
+returns-2 c =
+    let args = c .before .before .before .before .before .before .before .before .before .args in
+    let shared-slice-known2 = c .before .before .before .before .before .before .before .shared-slice-known2 in
+    let read-head = c .before .before .before .before .before .before .read-head in
+    let points = c .before .before .before .before .points in
+    let if2 = c .before .if2 in
+    let settle2 = c .settle2 in
+    settle2 .ensures ∙ judged-other (args .s .now) (λ i. shared-slice-known2 .given i .fits) (args .set) (args .marks .now) (read-head .result)
+    (read-head .ensures) (points .given .0 .0) (points .given .0 .1 .0) (points .given .0 .1 .1 .0) (points .given .0 .1 .1 .1 .0)
+    (points .given .1) (λ e. if2 .taken (e .1))
 
 compare-requires : tie.Need-compare-requires
 compare-requires c κs = search needs
 
 returns-3 : tie.Need-returns-3
-returns-3 c = judged-faulty (c .before .before .before .before .before .before .args .s .now) (λ i. c .before .before .before .before .shared-slice-known2 .given i .fits) (c .before .before .before .before .before .before .args .set) (c .before .before .before .before .before .before .args .marks .now) (c .before .before .before .read-head .result) (c .before .before .before .read-head .ensures) (c .before .at .given .0 .0) (c .before .at .given .1)
+returns-3 c =
+    let args = c .before .before .before .before .before .before .args in
+    let shared-slice-known2 = c .before .before .before .before .shared-slice-known2 in
+    let read-head = c .before .before .before .read-head in
+    let at = c .before .at in
+    judged-faulty (args .s .now) (λ i. shared-slice-known2 .given i .fits) (args .set) (args .marks .now) (read-head .result)
+    (read-head .ensures) (at .given .0 .0) (at .given .1)
 
 returns-4 : tie.Need-returns-4
-returns-4 c = c .compare .ensures ∙ judged-same (c .before .before .before .before .before .before .before .before .before .args .s .now) (λ i. c .before .before .before .before .before .before .before .shared-slice-known2 .given i .fits) (c .before .before .before .before .before .before .before .before .before .args .set) (c .before .before .before .before .before .before .before .before .before .args .marks .now) (c .before .before .before .before .before .before .read-head .result) (c .before .before .before .before .before .before .read-head .ensures) (c .before .before .before .before .points .given .0 .0) (c .before .before .before .before .points .given .0 .1 .0) (c .before .before .before .before .points .given .0 .1 .1 .0) (c .before .before .before .before .points .given .0 .1 .1 .1 .0) (c .before .before .before .before .points .given .1) (c .before .before .if1 .left) (c .before .if2 .left)
+returns-4 c =
+    let args = c .before .before .before .before .before .before .before .before .before .args in
+    let shared-slice-known2 = c .before .before .before .before .before .before .before .shared-slice-known2 in
+    let read-head = c .before .before .before .before .before .before .read-head in
+    let points = c .before .before .before .before .points in
+    let if1 = c .before .before .if1 in
+    let if2 = c .before .if2 in
+    let compare = c .compare in
+    compare .ensures ∙ judged-same (args .s .now) (λ i. shared-slice-known2 .given i .fits) (args .set) (args .marks .now) (read-head .result)
+    (read-head .ensures) (points .given .0 .0) (points .given .0 .1 .0) (points .given .0 .1 .1 .0) (points .given .0 .1 .1 .1 .0)
+    (points .given .1) (if1 .left) (if2 .left)
 
 pub check-marks-spec : {M : Type 1} → statement M
 check-marks-spec =

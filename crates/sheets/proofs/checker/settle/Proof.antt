@@ -1,5 +1,4 @@
 -- `sheets::checker::settle` meets its contract: the form of the entries that are left decides as that of all of them does. Assumes nothing.
-use Prim.Native.Nat.{ℕ}
 use native.Mathlib.Omega.{arith}
 use mathlib.Core.Path.{_≡_, refl, sym, ap, _∙_}
 use Rattle.sheets.specs.Said.{entries}
@@ -27,16 +26,42 @@ enum-known-fault : tie.Need-enum-known-fault Inv-loop μ-loop
 enum-known-fault c = search needs
 
 returns : tie.Need-returns Inv-loop μ-loop
-returns c = sym (c .before .before .before .before .before .loop .inv ∙ ap (unlessFault (checked (c .before .before .before .before .before .before .before .args .answer))) (entry-broken (c .before .before .before .before .before .before .before .args .s .now) (c .before .before .before .before .before .before .before .args .set) (c .before .before .before .before .before .loop .left) (c .before .before .before .before .before .loop .at) (c .before .before .before .before .before .loop .k) (c .before .before .before .read-entry .result) (c .before .before .before .read-entry .ensures) (c .before .fault .given .0 .0) (c .before .fault .given .1) (c .before .before .before .before .loop-test .taken)))
+returns c =
+    let args = c .before .before .before .before .before .before .before .args in
+    let loop = c .before .before .before .before .before .loop in
+    let loop-test = c .before .before .before .before .loop-test in
+    let read-entry = c .before .before .before .read-entry in
+    let fault = c .before .fault in
+    sym (loop .inv ∙ ap (unlessFault (checked (args .answer)))
+    (entry-broken (args .s .now) (args .set) (loop .left) (loop .at) (loop .k) (read-entry .result) (read-entry .ensures) (fault .given .0 .0)
+    (fault .given .1) (loop-test .taken)))
 
 enum-known-skip : tie.Need-enum-known-skip Inv-loop μ-loop
 enum-known-skip c = search needs
 
 sub-left : tie.Need-sub-left Inv-loop μ-loop
-sub-left c = omega (arith, entry-fits (c .before .before .before .before .before .before .before .args .s .now) (c .before .before .before .before .before .before .before .args .set) (c .before .before .before .before .before .loop .left) (c .before .before .before .before .before .loop .at) (c .before .before .before .before .before .loop .k) (c .before .before .before .read-entry .result) (c .before .before .before .read-entry .ensures) (c .before .skip .given .0 .0) (c .before .skip .given .0 .1 .0) (c .before .skip .given .0 .1 .1 .0) (c .before .skip .given .1))
+sub-left c =
+    let args = c .before .before .before .before .before .before .before .args in
+    let loop = c .before .before .before .before .before .loop in
+    let read-entry = c .before .before .before .read-entry in
+    let skip = c .before .skip in
+    omega (
+      arith,
+      entry-fits (args .s .now) (args .set) (loop .left) (loop .at) (loop .k) (read-entry .result) (read-entry .ensures)
+          (skip .given .0 .0) (skip .given .0 .1 .0) (skip .given .0 .1 .1 .0) (skip .given .1),
+    )
 
 sub-left-2 : tie.Need-sub-left-2 Inv-loop μ-loop
-sub-left-2 c = omega (arith, entry-fits (c .before .before .before .before .before .before .before .args .s .now) (c .before .before .before .before .before .before .before .args .set) (c .before .before .before .before .before .loop .left) (c .before .before .before .before .before .loop .at) (c .before .before .before .before .before .loop .k) (c .before .before .before .read-entry .result) (c .before .before .before .read-entry .ensures) (c .before .skip .given .0 .0) (c .before .skip .given .0 .1 .0) (c .before .skip .given .0 .1 .1 .0) (c .before .skip .given .1))
+sub-left-2 c =
+    let args = c .before .before .before .before .before .before .before .args in
+    let loop = c .before .before .before .before .before .loop in
+    let read-entry = c .before .before .before .read-entry in
+    let skip = c .before .skip in
+    omega (
+      arith,
+      entry-fits (args .s .now) (args .set) (loop .left) (loop .at) (loop .k) (read-entry .result) (read-entry .ensures)
+          (skip .given .0 .0) (skip .given .0 .1 .0) (skip .given .0 .1 .1 .0) (skip .given .1),
+    )
 
 sub-k : tie.Need-sub-k Inv-loop μ-loop
 sub-k c = search needs
@@ -46,15 +71,33 @@ loop-less c = search needs
 
 loop-again : tie.Need-loop-again Inv-loop μ-loop
 loop-again c =
-    c .before .before .before .before .before .loop .inv
-    ∙ entry-passed (c .before .before .before .before .before .before .before .args .s .now) (c .before .before .before .before .before .before .before .args .set) (c .before .before .before .before .before .loop .left) (c .before .before .before .before .before .loop .at) (c .before .before .before .before .before .loop .k) (c .before .before .before .read-entry .result) (c .before .before .before .read-entry .ensures) (c .before .skip .given .0 .0) (c .before .skip .given .0 .1 .0) (c .before .skip .given .0 .1 .1 .0) (c .before .skip .given .1)
-    (checked (c .before .before .before .before .before .before .before .args .answer)) (c .before .before .before .before .loop-test .taken)
+    let args = c .before .before .before .before .before .before .before .args in
+    let loop = c .before .before .before .before .before .loop in
+    let loop-test = c .before .before .before .before .loop-test in
+    let read-entry = c .before .before .before .read-entry in
+    let skip = c .before .skip in
+    loop .inv
+    ∙ entry-passed (args .s .now) (args .set) (loop .left) (loop .at) (loop .k) (read-entry .result) (read-entry .ensures) (skip .given .0 .0)
+    (skip .given .0 .1 .0) (skip .given .0 .1 .1 .0) (skip .given .1)
+    (checked (args .answer)) (loop-test .taken)
 
 returns-2 : tie.Need-returns-2 Inv-loop μ-loop
-returns-2 c = sym (c .before .before .loop .inv ∙ ap (unlessFault (checked (c .before .before .before .before .args .answer))) (left-over (c .before .before .before .before .args .s .now) (c .before .before .before .before .args .set) (c .before .before .loop .left) (c .before .before .loop .at) (c .before .before .loop .k) (c .before .loop-test .left) (c .if1 .taken)))
+returns-2 c =
+    let args = c .before .before .before .before .args in
+    let loop = c .before .before .loop in
+    let loop-test = c .before .loop-test in
+    let if1 = c .if1 in
+    sym (loop .inv ∙ ap (unlessFault (checked (args .answer)))
+    (left-over (args .s .now) (args .set) (loop .left) (loop .at) (loop .k) (loop-test .left) (if1 .taken)))
 
 returns-3 : tie.Need-returns-3 Inv-loop μ-loop
-returns-3 c = sym (c .before .before .loop .inv ∙ ap (unlessFault (checked (c .before .before .before .before .args .answer))) (all-read (c .before .before .before .before .args .s .now) (c .before .before .before .before .args .set) (c .before .before .loop .left) (c .before .before .loop .at) (c .before .before .loop .k) (c .before .loop-test .left) (c .if1 .left)))
+returns-3 c =
+    let args = c .before .before .before .before .args in
+    let loop = c .before .before .loop in
+    let loop-test = c .before .loop-test in
+    let if1 = c .if1 in
+    sym (loop .inv ∙ ap (unlessFault (checked (args .answer)))
+    (all-read (args .s .now) (args .set) (loop .left) (loop .at) (loop .k) (loop-test .left) (if1 .left)))
 
 pub settle-spec : {M : Type 1} → statement M
 settle-spec =

@@ -1,14 +1,11 @@
 -- `sheets::reader::read_head` meets its contract: its numbers are those of `saidFrom`, in the same order. Assumes nothing.
-use mathlib.Core.Path.{_≡_, sym, ap, _∙_}
+use mathlib.Core.Path.{sym, _∙_}
 use native.Mathlib.Omega.{arith}
-use Rattle.sheets.specs.Said.{saidFrom, entries}
+use Rattle.sheets.specs.Said.{saidFrom}
 use Rattle.sheets.proofs.Reading.{number-read, number-fault, number-low}
 use borrow.Author.Needs.{needs}
 use Rattle.sheets.proofs.reader.read_head.Statement.{statement}
 use Rattle.sheets.proofs.reader.read_head.Tie as tie
-use Rattle.sheets.proofs.reader.read_head.Reads as reads
-use Rattle.sheets.proofs.reader.read_head.Lts as lts
-use Rattle.sheets.proofs.reader.read_at_most.Reads as read-at-most-reads
 
 read-at-most-requires : tie.Need-read-at-most-requires
 read-at-most-requires c κs = search needs
@@ -21,7 +18,9 @@ enum-told c = search needs
 
 returns : tie.Need-returns
 unfolding saidFrom
-returns c = number-fault 4096 0 _ (c .before .before .before .before .args .s .now) _ (sym (c .before .before .read-at-most .ensures) ∙ c .enum-told .given .1)
+returns c =
+    let args = c .before .before .before .before .args in
+    number-fault 4096 0 _ (args .s .now) _ (sym (c .before .before .read-at-most .ensures) ∙ c .enum-told .given .1)
 
 read-at-most-requires-2 : tie.Need-read-at-most-requires-2
 read-at-most-requires-2 c κs = search needs
@@ -35,8 +34,14 @@ enum-told-2 c = search needs
 returns-2 : tie.Need-returns-2
 unfolding saidFrom
 returns-2 c =
-    let first = number-read 4096 0 _ (c .before .before .before .before .before .before .before .before .args .s .now) (c .before .before .before .before .points .given .0 .0) (c .before .before .before .before .points .given .0 .1 .0) (sym (c .before .before .before .before .before .before .read-at-most .ensures) ∙ c .before .before .before .before .points .given .1) in
-    first ∙ number-fault 511 (c .before .before .before .before .points .given .0 .1 .0) _ (c .before .before .before .before .before .before .before .before .args .s .now) _ (sym (c .before .before .read-at-most2 .ensures) ∙ c .enum-told2 .given .1)
+    let args = c .before .before .before .before .before .before .before .before .args in
+    let read-at-most = c .before .before .before .before .before .before .read-at-most in
+    let points = c .before .before .before .before .points in
+    let read-at-most2 = c .before .before .read-at-most2 in
+    let enum-told2 = c .enum-told2 in
+    let first = number-read 4096 0 _ (args .s .now) (points .given .0 .0) (points .given .0 .1 .0)
+    (sym (read-at-most .ensures) ∙ points .given .1) in
+    first ∙ number-fault 511 (points .given .0 .1 .0) _ (args .s .now) _ (sym (read-at-most2 .ensures) ∙ enum-told2 .given .1)
 
 read-at-most-requires-3 : tie.Need-read-at-most-requires-3
 read-at-most-requires-3 c κs = search needs
@@ -50,19 +55,48 @@ enum-told-3 c = search needs
 returns-3 : tie.Need-returns-3
 unfolding saidFrom
 returns-3 c =
-    let first = number-read 4096 0 _ (c .before .before .before .before .before .before .before .before .before .before .before .before .args .s .now) (c .before .before .before .before .before .before .before .before .points .given .0 .0) (c .before .before .before .before .before .before .before .before .points .given .0 .1 .0) (sym (c .before .before .before .before .before .before .before .before .before .before .read-at-most .ensures) ∙ c .before .before .before .before .before .before .before .before .points .given .1) in
-    let second = number-read 511 (c .before .before .before .before .before .before .before .before .points .given .0 .1 .0) _ (c .before .before .before .before .before .before .before .before .before .before .before .before .args .s .now) (c .before .before .before .before .set .given .0 .0) (c .before .before .before .before .set .given .0 .1 .0) (sym (c .before .before .before .before .before .before .read-at-most2 .ensures) ∙ c .before .before .before .before .set .given .1) in
-    first ∙ second ∙ number-fault (c .before .before .before .before .before .before .before .before .points .given .0 .0) (c .before .before .before .before .set .given .0 .1 .0) _ (c .before .before .before .before .before .before .before .before .before .before .before .before .args .s .now) _ (sym (c .before .before .read-at-most3 .ensures) ∙ c .enum-told3 .given .1)
+    let args = c .before .before .before .before .before .before .before .before .before .before .before .before .args in
+    let read-at-most = c .before .before .before .before .before .before .before .before .before .before .read-at-most in
+    let points = c .before .before .before .before .before .before .before .before .points in
+    let read-at-most2 = c .before .before .before .before .before .before .read-at-most2 in
+    let set = c .before .before .before .before .set in
+    let read-at-most3 = c .before .before .read-at-most3 in
+    let enum-told3 = c .enum-told3 in
+    let first = number-read 4096 0 _ (args .s .now) (points .given .0 .0) (points .given .0 .1 .0)
+    (sym (read-at-most .ensures) ∙ points .given .1) in
+    let second = number-read 511 (points .given .0 .1 .0) _ (args .s .now) (set .given .0 .0) (set .given .0 .1 .0)
+    (sym (read-at-most2 .ensures) ∙ set .given .1) in
+    first ∙ second ∙ number-fault (points .given .0 .0) (set .given .0 .1 .0) _ (args .s .now) _
+    (sym (read-at-most3 .ensures) ∙ enum-told3 .given .1)
 
 cast-t12 : tie.Need-cast-t12
-cast-t12 c = omega (arith, number-low 511 (c .before .before .before .before .before .before .before .before .before .points .given .0 .1 .0) (c .before .before .before .before .before .before .before .before .before .before .before .before .before .args .s .now) (c .before .before .before .before .before .set .given .0 .0) (c .before .before .before .before .before .set .given .0 .1 .0) (sym (c .before .before .before .before .before .before .before .read-at-most2 .ensures) ∙ c .before .before .before .before .before .set .given .1))
+cast-t12 c =
+    let args = c .before .before .before .before .before .before .before .before .before .before .before .before .before .args in
+    let points = c .before .before .before .before .before .before .before .before .before .points in
+    let read-at-most2 = c .before .before .before .before .before .before .before .read-at-most2 in
+    let set = c .before .before .before .before .before .set in
+    omega (
+      arith,
+      number-low 511 (points .given .0 .1 .0) (args .s .now) (set .given .0 .0) (set .given .0 .1 .0)
+          (sym (read-at-most2 .ensures) ∙ set .given .1),
+    )
 
 returns-4 : tie.Need-returns-4
 unfolding saidFrom
 returns-4 c =
-    let first = number-read 4096 0 _ (c .before .before .before .before .before .before .before .before .before .before .before .before .before .args .s .now) (c .before .before .before .before .before .before .before .before .before .points .given .0 .0) (c .before .before .before .before .before .before .before .before .before .points .given .0 .1 .0) (sym (c .before .before .before .before .before .before .before .before .before .before .before .read-at-most .ensures) ∙ c .before .before .before .before .before .before .before .before .before .points .given .1) in
-    let second = number-read 511 (c .before .before .before .before .before .before .before .before .before .points .given .0 .1 .0) _ (c .before .before .before .before .before .before .before .before .before .before .before .before .before .args .s .now) (c .before .before .before .before .before .set .given .0 .0) (c .before .before .before .before .before .set .given .0 .1 .0) (sym (c .before .before .before .before .before .before .before .read-at-most2 .ensures) ∙ c .before .before .before .before .before .set .given .1) in
-    first ∙ second ∙ number-read (c .before .before .before .before .before .before .before .before .before .points .given .0 .0) (c .before .before .before .before .before .set .given .0 .1 .0) _ (c .before .before .before .before .before .before .before .before .before .before .before .before .before .args .s .now) (c .before .marked .given .0 .0) (c .before .marked .given .0 .1 .0) (sym (c .before .before .before .read-at-most3 .ensures) ∙ c .before .marked .given .1)
+    let args = c .before .before .before .before .before .before .before .before .before .before .before .before .before .args in
+    let read-at-most = c .before .before .before .before .before .before .before .before .before .before .before .read-at-most in
+    let points = c .before .before .before .before .before .before .before .before .before .points in
+    let read-at-most2 = c .before .before .before .before .before .before .before .read-at-most2 in
+    let set = c .before .before .before .before .before .set in
+    let read-at-most3 = c .before .before .before .read-at-most3 in
+    let marked = c .before .marked in
+    let first = number-read 4096 0 _ (args .s .now) (points .given .0 .0) (points .given .0 .1 .0)
+    (sym (read-at-most .ensures) ∙ points .given .1) in
+    let second = number-read 511 (points .given .0 .1 .0) _ (args .s .now) (set .given .0 .0) (set .given .0 .1 .0)
+    (sym (read-at-most2 .ensures) ∙ set .given .1) in
+    first ∙ second ∙ number-read (points .given .0 .0) (set .given .0 .1 .0) _ (args .s .now) (marked .given .0 .0) (marked .given .0 .1 .0)
+    (sym (read-at-most3 .ensures) ∙ marked .given .1)
 
 pub read-head-spec : {M : Type 1} → statement M
 read-head-spec =

@@ -1,5 +1,5 @@
 -- `sheets::writer::measure` meets its contract. `Measures` of proofs/Writing.antt is the invariant of its loop. Assumes nothing.
-use Prim.Native.Nat.{ℕ, _-_}
+use Prim.Native.Nat.{_-_}
 use native.Mathlib.Omega.{arith}
 use lib.ListN.{length}
 use Rattle.sheets.proofs.Writing.{Measures, measures-start, measures-skip, measures-put, measures-end}
@@ -32,19 +32,27 @@ loop-less : tie.Need-loop-less Inv-loop μ-loop
 loop-less c = search needs
 
 loop-again : tie.Need-loop-again Inv-loop μ-loop
-loop-again c = measures-skip (c .before .before .before .before .before .args .marks .now) (c .before .before .before .loop .i) (c .before .before .before .loop .skip) (c .before .before .before .loop .marked) (c .before .before .before .loop .len) (c .before .before .before .loop .inv) (c .before .before .loop-test .taken) (c .if1 .taken)
+loop-again c =
+    let args = c .before .before .before .before .before .args in
+    let loop = c .before .before .before .loop in
+    let loop-test = c .before .before .loop-test in
+    measures-skip (args .marks .now) (loop .i) (loop .skip) (loop .marked) (loop .len) (loop .inv) (loop-test .taken) (c .if1 .taken)
 
 size-requires : tie.Need-size-requires Inv-loop μ-loop
 size-requires c κs = search needs
 
 add-len : tie.Need-add-len Inv-loop μ-loop
-add-len c = omega (arith, c .before .before .before .before .loop .inv .short, c .before .before .before .before .loop .inv .points, c .size .ensures .1)
+add-len c =
+    let loop = c .before .before .before .before .loop in
+    omega (arith, loop .inv .short, loop .inv .points, c .size .ensures .1)
 
 size-requires-2 : tie.Need-size-requires-2 Inv-loop μ-loop
 size-requires-2 c κs = search needs
 
 add-len-2 : tie.Need-add-len-2 Inv-loop μ-loop
-add-len-2 c = omega (arith, c .before .before .before .before .before .loop .inv .short, c .before .before .before .before .before .loop .inv .points, c .before .size .ensures .1, c .size2 .ensures .1)
+add-len-2 c =
+    let loop = c .before .before .before .before .before .loop in
+    omega (arith, loop .inv .short, loop .inv .points, c .before .size .ensures .1, c .size2 .ensures .1)
 
 add-marked : tie.Need-add-marked Inv-loop μ-loop
 add-marked c = search needs
@@ -56,10 +64,21 @@ loop-less-2 : tie.Need-loop-less-2 Inv-loop μ-loop
 loop-less-2 c = search needs
 
 loop-again-2 : tie.Need-loop-again-2 Inv-loop μ-loop
-loop-again-2 c = measures-put (c .before .before .before .before .before .before .before .args .marks .now) (c .before .before .before .before .before .loop .i) (c .before .before .before .before .before .loop .skip) (c .before .before .before .before .before .loop .marked) (c .before .before .before .before .before .loop .len) (c .before .before .before .before .before .loop .inv) (c .before .before .before .before .loop-test .taken) (c .before .before .if1 .left) (c .before .size .result) (c .size2 .result) (c .before .size .ensures) (c .size2 .ensures)
+loop-again-2 c =
+    let args = c .before .before .before .before .before .before .before .args in
+    let loop = c .before .before .before .before .before .loop in
+    let loop-test = c .before .before .before .before .loop-test in
+    let if1 = c .before .before .if1 in
+    let size = c .before .size in
+    let size2 = c .size2 in
+    measures-put (args .marks .now) (loop .i) (loop .skip) (loop .marked) (loop .len) (loop .inv) (loop-test .taken) (if1 .left) (size .result)
+    (size2 .result) (size .ensures) (size2 .ensures)
 
 returns : tie.Need-returns Inv-loop μ-loop
-returns c = measures-end (c .before .before .before .args .marks .now) (c .before .loop .i) (c .before .loop .skip) (c .before .loop .marked) (c .before .loop .len) (c .before .loop .inv) (c .loop-test .left)
+returns c =
+    let args = c .before .before .before .args in
+    let loop = c .before .loop in
+    measures-end (args .marks .now) (loop .i) (loop .skip) (loop .marked) (loop .len) (loop .inv) (c .loop-test .left)
 
 pub measure-spec : {M : Type 1} → statement M
 measure-spec =

@@ -1,7 +1,7 @@
 -- `sheets::writer::put` meets its contract: the room holds the number, so that it is never too short. Assumes nothing.
 use Prim.Native.Nat.{ℕ}
 use native.Mathlib.Omega.{arith}
-use mathlib.Core.Path.{_≡_, refl, sym, ap, _∙_}
+use mathlib.Core.Path.{_≡_, sym, _∙_}
 use borrow.Author.Tests.{le-leb}
 use lib.ListN.{length}
 use Rattle.groups.specs.declared.Writing.the-variants.{Bytes, Short}
@@ -24,17 +24,25 @@ same-length c = search needs
 
 returns : tie.Need-returns
 returns c =
-    let holds = le-leb (length (groups (c .before .before .before .before .before .before .before .before .args .x))) (length (c .before .before .before .before .before .before .before .before .args .out .now)) (c .before .before .before .before .before .before .before .before .pre) in
-    let bytes : Bytes (c .before .n .given .0 .0) ≡ Bytes (length (groups (c .before .before .before .before .before .before .before .before .args .x))) = sym (c .before .n .given .1) ∙ c .before .before .before .before .before .write-number .ensures .0 ∙ simp holds in
-    (cc, c .before .before .before .before .before .write-number .ensures .1 ∙ simp holds)
+    let args = c .before .before .before .before .before .before .before .before .args in
+    let pre = c .before .before .before .before .before .before .before .before .pre in
+    let write-number = c .before .before .before .before .before .write-number in
+    let n = c .before .n in
+    let holds = le-leb (length (groups (args .x))) (length (args .out .now)) (pre) in
+    let bytes : Bytes (n .given .0 .0) ≡ Bytes (length (groups (args .x))) = sym (n .given .1) ∙ write-number .ensures .0 ∙ simp holds in
+    (cc, write-number .ensures .1 ∙ simp holds)
 
 same-length-2 : tie.Need-same-length-2
 same-length-2 c = search needs
 
 returns-2 : tie.Need-returns-2
 returns-2 c =
-    let holds = le-leb (length (groups (c .before .before .before .before .before .before .before .args .x))) (length (c .before .before .before .before .before .before .before .args .out .now)) (c .before .before .before .before .before .before .before .pre) in
-    let never : Short ≡ Bytes (length (groups (c .before .before .before .before .before .before .before .args .x))) = sym (c .enum-told .given .1) ∙ c .before .before .before .before .write-number .ensures .0 ∙ simp holds in
+    let args = c .before .before .before .before .before .before .before .args in
+    let pre = c .before .before .before .before .before .before .before .pre in
+    let write-number = c .before .before .before .before .write-number in
+    let enum-told = c .enum-told in
+    let holds = le-leb (length (groups (args .x))) (length (args .out .now)) (pre) in
+    let never : Short ≡ Bytes (length (groups (args .x))) = sym (enum-told .given .1) ∙ write-number .ensures .0 ∙ simp holds in
     absurd (let z : _≡_ {A = ℕ} 0 1 = cc in omega arith)
 
 pub put-spec : {M : Type 1} → statement M

@@ -1,5 +1,5 @@
 -- `sheets::writer::write_entries` meets its contract. `Writes` of proofs/Writing.antt is the invariant of its loop. Assumes nothing.
-use Prim.Native.Nat.{ℕ, _-_}
+use Prim.Native.Nat.{_-_}
 use native.Mathlib.Omega.{arith}
 use lib.ListN.{length}
 use Rattle.laws.proofs.Filling.{filling-length}
@@ -16,7 +16,9 @@ abbrev μ-loop : tie.MeasureT-loop
 μ-loop out₀ marks i₀ skip₀ at₀ out i skip at = length marks - i
 
 loop-holds : tie.Need-loop-holds Inv-loop μ-loop
-loop-holds c = writes-start (c .before .before .args .marks .now) (c .before .before .args .out .now) (c .before .before .pre .1)
+loop-holds c =
+    let args = c .before .before .args in
+    writes-start (args .marks .now) (args .out .now) (c .before .before .pre .1)
 
 mul-m : tie.Need-mul-m Inv-loop μ-loop
 mul-m c = search needs
@@ -34,22 +36,61 @@ loop-less : tie.Need-loop-less Inv-loop μ-loop
 loop-less c = search needs
 
 loop-again : tie.Need-loop-again Inv-loop μ-loop
-loop-again c = writes-skip (c .before .before .before .before .before .before .args .marks .now) (c .before .before .before .before .before .before .args .out .now) (c .before .before .before .loop .out) (c .before .before .before .loop .i) (c .before .before .before .loop .skip) (c .before .before .before .loop .at) (c .before .before .before .loop .inv) (c .before .before .loop-test .taken) (c .if1 .taken)
+loop-again c =
+    let args = c .before .before .before .before .before .before .args in
+    let loop = c .before .before .before .loop in
+    let loop-test = c .before .before .loop-test in
+    writes-skip (args .marks .now) (args .out .now) (loop .out) (loop .i) (loop .skip) (loop .at) (loop .inv) (loop-test .taken) (c .if1 .taken)
 
 sub-write-entry : tie.Need-sub-write-entry Inv-loop μ-loop
-sub-write-entry c = omega (arith, c .before .before .before .loop .inv .filling .within, c .before .before .before .loop .inv .filling .room, filling-length (entriesOf 0 (c .before .before .before .before .before .before .args .marks .now)) (c .before .before .before .before .before .before .args .out .now) (c .before .before .before .loop .out) (c .before .before .before .loop .at) (c .before .before .before .loop .inv .filling))
+sub-write-entry c =
+    let args = c .before .before .before .before .before .before .args in
+    let loop = c .before .before .before .loop in
+    omega (
+      arith,
+      loop .inv .filling .within,
+      loop .inv .filling .room,
+      filling-length (entriesOf 0 (args .marks .now)) (args .out .now)
+          (loop .out) (loop .at) (loop .inv .filling),
+    )
 
 part-write-entry-start : tie.Need-part-write-entry-start Inv-loop μ-loop
-part-write-entry-start c = omega (arith, c .before .before .before .loop .inv .filling .within, c .before .before .before .loop .inv .filling .room, filling-length (entriesOf 0 (c .before .before .before .before .before .before .args .marks .now)) (c .before .before .before .before .before .before .args .out .now) (c .before .before .before .loop .out) (c .before .before .before .loop .at) (c .before .before .before .loop .inv .filling))
+part-write-entry-start c =
+    let args = c .before .before .before .before .before .before .args in
+    let loop = c .before .before .before .loop in
+    omega (
+      arith,
+      loop .inv .filling .within,
+      loop .inv .filling .room,
+      filling-length (entriesOf 0 (args .marks .now)) (args .out .now)
+          (loop .out) (loop .at) (loop .inv .filling),
+    )
 
 part-write-entry-end : tie.Need-part-write-entry-end Inv-loop μ-loop
 part-write-entry-end c = search needs
 
 write-entry-requires : tie.Need-write-entry-requires Inv-loop μ-loop
-write-entry-requires c κs = writes-room (c .before .before .before .before .before .before .before .args .marks .now) (c .before .before .before .before .before .before .before .args .out .now) (c .before .before .before .before .loop .out) (c .before .before .before .before .loop .i) (c .before .before .before .before .loop .skip) (c .before .before .before .before .loop .at) (c .before .before .before .before .loop .inv) (c .before .before .before .loop-test .taken) (c .before .if1 .left)
+write-entry-requires c κs =
+    let args = c .before .before .before .before .before .before .before .args in
+    let loop = c .before .before .before .before .loop in
+    let loop-test = c .before .before .before .loop-test in
+    let if1 = c .before .if1 in
+    writes-room (args .marks .now) (args .out .now) (loop .out) (loop .i) (loop .skip) (loop .at) (loop .inv) (loop-test .taken) (if1 .left)
 
 add-at : tie.Need-add-at Inv-loop μ-loop
-add-at c = omega (arith, writes-on (c .before .before .before .before .before .before .before .before .before .before .args .marks .now) (c .before .before .before .before .before .before .before .before .before .before .args .out .now) (c .before .before .before .before .before .before .before .loop .out) (c .before .before .before .before .before .before .before .loop .i) (c .before .before .before .before .before .before .before .loop .skip) (c .before .before .before .before .before .before .before .loop .at) (c .before .before .before .before .before .before .before .loop .inv) (c .before .before .before .before .before .before .loop-test .taken) (c .before .before .before .before .if1 .left) (c .before .before .write-entry .last .0) (c .before .before .write-entry .result) (c .before .before .write-entry .ensures .1) (c .before .before .write-entry .ensures .0) .filling .within, c .before .before .before .before .before .before .before .loop .inv .filling .room)
+add-at c =
+    let args = c .before .before .before .before .before .before .before .before .before .before .args in
+    let loop = c .before .before .before .before .before .before .before .loop in
+    let loop-test = c .before .before .before .before .before .before .loop-test in
+    let if1 = c .before .before .before .before .if1 in
+    let write-entry = c .before .before .write-entry in
+    omega (
+      arith,
+      writes-on (args .marks .now) (args .out .now) (loop .out) (loop .i) (loop .skip) (loop .at) (loop .inv) (loop-test .taken)
+          (if1 .left) (write-entry .last .0) (write-entry .result) (write-entry .ensures .1) (write-entry .ensures .0) .filling .within,
+      loop .inv
+          .filling .room,
+    )
 
 add-i-2 : tie.Need-add-i-2 Inv-loop μ-loop
 add-i-2 c = search needs
@@ -58,13 +99,30 @@ loop-less-2 : tie.Need-loop-less-2 Inv-loop μ-loop
 loop-less-2 c = search needs
 
 loop-again-2 : tie.Need-loop-again-2 Inv-loop μ-loop
-loop-again-2 c = writes-on (c .before .before .before .before .before .before .before .before .before .before .args .marks .now) (c .before .before .before .before .before .before .before .before .before .before .args .out .now) (c .before .before .before .before .before .before .before .loop .out) (c .before .before .before .before .before .before .before .loop .i) (c .before .before .before .before .before .before .before .loop .skip) (c .before .before .before .before .before .before .before .loop .at) (c .before .before .before .before .before .before .before .loop .inv) (c .before .before .before .before .before .before .loop-test .taken) (c .before .before .before .before .if1 .left) (c .before .before .write-entry .last .0) (c .before .before .write-entry .result) (c .before .before .write-entry .ensures .1) (c .before .before .write-entry .ensures .0)
+loop-again-2 c =
+    let args = c .before .before .before .before .before .before .before .before .before .before .args in
+    let loop = c .before .before .before .before .before .before .before .loop in
+    let loop-test = c .before .before .before .before .before .before .loop-test in
+    let if1 = c .before .before .before .before .if1 in
+    let write-entry = c .before .before .write-entry in
+    writes-on (args .marks .now) (args .out .now) (loop .out) (loop .i) (loop .skip) (loop .at) (loop .inv) (loop-test .taken) (if1 .left)
+    (write-entry .last .0) (write-entry .result) (write-entry .ensures .1) (write-entry .ensures .0)
 
 same-length : tie.Need-same-length Inv-loop μ-loop
-same-length c = filling-length (entriesOf 0 (c .before .before .before .before .args .marks .now)) (c .before .before .before .before .args .out .now) (c .before .loop .out) (c .before .loop .at) (c .before .loop .inv .filling)
+same-length c =
+    let args = c .before .before .before .before .args in
+    let loop = c .before .loop in
+    filling-length (entriesOf 0 (args .marks .now)) (args .out .now) (loop .out) (loop .at) (loop .inv .filling)
 
 returns : tie.Need-returns Inv-loop μ-loop
-returns c = (writes-count (c .before .before .before .before .args .marks .now) (c .before .before .before .before .args .out .now) (c .before .loop .out) (c .before .loop .i) (c .before .loop .skip) (c .before .loop .at) (c .before .loop .inv) (c .loop-test .left), writes-end (c .before .before .before .before .args .marks .now) (c .before .before .before .before .args .out .now) (c .before .loop .out) (c .before .loop .i) (c .before .loop .skip) (c .before .loop .at) (c .before .loop .inv) (c .loop-test .left))
+returns c =
+    let args = c .before .before .before .before .args in
+    let loop = c .before .loop in
+    let loop-test = c .loop-test in (
+      writes-count (args .marks .now) (args .out .now) (loop .out) (loop .i) (loop .skip) (loop .at) (loop .inv) (loop-test .left),
+      writes-end
+          (args .marks .now) (args .out .now) (loop .out) (loop .i) (loop .skip) (loop .at) (loop .inv) (loop-test .left),
+    )
 
 pub write-entries-spec : {M : Type 1} → statement M
 write-entries-spec =
