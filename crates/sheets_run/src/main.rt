@@ -1,5 +1,6 @@
 // Runs the sheet's writer and checker: 01's rows 10 and 11; a hundred sheets, each accepted, and refused with any one byte
-// changed, cut at any place, or with any byte more; and the longest sheet. Writes how often the checker gave each answer.
+// changed, cut at any place, or with any byte more, the last two at the right place; and the longest sheet. Writes how
+// often the checker gave each answer.
 use libc::STDOUT_FILENO;
 use rules::Limits;
 use sets::RuleSet;
@@ -16,12 +17,26 @@ fn limits() -> Limits {
     }
 }
 
+// Where wrong answers are counted: no answer of the checker has this number.
+const ELSEWHERE: usize = 1;
+
 // Counts an answer of the checker by its number.
 fn count(counts: &mut [u64; 12], answer: Checked) {
     let n = answer.number() as usize;
     if n < 12 {
         counts[n] = std::num::wrapping_add_u64(counts[n], 1);
     }
+}
+
+// Counts a form fault that is where it ought to be, and anything else as a wrong answer.
+fn count_fault(counts: &mut [u64; 12], answer: Checked, place: usize) {
+    if let Checked::Form { at } = answer {
+        if at == place {
+            counts[9] = std::num::wrapping_add_u64(counts[9], 1);
+            return;
+        }
+    }
+    counts[ELSEWHERE] = std::num::wrapping_add_u64(counts[ELSEWHERE], 1);
 }
 
 // The length of the sheet that is written into the room, or 0 where it is refused.
@@ -36,12 +51,27 @@ fn sheet_of(values: &[f64], set: RuleSet, room: &mut [u8]) -> usize
     0
 }
 
-// Checks the sheet cut at each place.
+// Where the number begins that the byte at `next` belongs to, told the byte before it and where that one's number begins.
+fn begins(before: u8, start: usize, next: usize) -> usize {
+    if before < 128 {
+        return next;
+    }
+    start
+}
+
+// Checks the sheet cut at each place: the fault is at the first byte of the number that is cut, or that is missing.
 fn cut(values: &[f64], set: RuleSet, sheet: &[u8], counts: &mut [u64; 12]) {
+    let mut start: usize = 0;
     let mut n: usize = 0;
     while n < sheet.len() {
-        count(counts, sheets::check(values, limits(), set, &sheet[0..n]));
-        n += 1;
+        count_fault(
+            counts,
+            sheets::check(values, limits(), set, &sheet[0..n]),
+            start,
+        );
+        let next = n + 1;
+        start = begins(sheet[n], start, next);
+        n = next;
     }
 }
 
@@ -68,7 +98,7 @@ fn change(values: &[f64], set: RuleSet, sheet: &mut [u8], counts: &mut [u64; 12]
     }
 }
 
-// Checks the sheet, which ends one byte before the end of the room, with each byte more.
+// Checks the sheet, which ends one byte before the end of the room, with each byte more: the fault is at that byte.
 fn extend(values: &[f64], set: RuleSet, room: &mut [u8], counts: &mut [u64; 12])
     requires { ⌜ 0 < length (now room) ⌝ }
 {
@@ -76,11 +106,11 @@ fn extend(values: &[f64], set: RuleSet, room: &mut [u8], counts: &mut [u64; 12])
     let mut more: u8 = 255;
     while 0 < more {
         room[last] = more;
-        count(counts, sheets::check(values, limits(), set, room));
+        count_fault(counts, sheets::check(values, limits(), set, room), last);
         more -= 1;
     }
     room[last] = 0;
-    count(counts, sheets::check(values, limits(), set, room));
+    count_fault(counts, sheets::check(values, limits(), set, room), last);
 }
 
 // Writes a sheet into the room, and checks it as it is, changed, cut and extended. Gives its length.
@@ -203,6 +233,7 @@ fn main() {
     say(b"", bytes, b" bytes; refused ");
     say(b"", counts[9], b" by form, ");
     say(b"", counts[10], b" by count or set, ");
-    say(b"", counts[11], b" by marks; ");
+    say(b"", counts[11], b" by marks, ");
+    say(b"", counts[ELSEWHERE], b" otherwise; ");
     say(b"the longest has ", longest(), b" bytes\n");
 }
