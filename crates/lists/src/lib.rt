@@ -1,10 +1,18 @@
-// Lists of cases with their right answers, in the form of oracle/FORMAT.md: reading what they hold, and saying why
-// bytes are no list.
+// Lists of cases with their right answers, in the form of oracle/FORMAT.md: reading what they hold, holding what is ours
+// to it, and saying why bytes are no list.
+mod apart;
 mod words;
 
+pub use apart::Apart;
+pub use apart::Parting;
+pub use apart::bits;
+pub use apart::floats_apart;
+pub use apart::marks_apart;
 use groups::Reading;
 pub use words::no_list;
+pub use words::put;
 pub use words::say;
+pub use words::say_bits;
 pub use words::totals;
 ghost use Rattle.lists.specs.Taken.{AtMost};
 
@@ -19,11 +27,20 @@ pub enum Item {
     Format,
     Cases,
     Tag,
+    Kind,
+    Size,
     Set,
     Limit,
     Count,
+    Samples,
     Value,
+    Answer,
+    Points,
+    Point,
     Marks,
+    AllMarks,
+    NoneStands,
+    Figure,
     End,
 }
 
@@ -35,6 +52,8 @@ pub enum Why {
     Form,
     /// The number is `value` and ought to be `low` to `high`.
     Range { value: u64, low: u16, high: u16 },
+    /// The number is `value` and ought to be an answer that a list has.
+    NoAnswer { value: u64 },
     /// The number is an f64's bits, and the f64 is not finite.
     NotFinite,
     /// Bytes follow the end.
@@ -152,6 +171,28 @@ pub fn read_small(list: &[u8], at: usize, item: Item, low: u16, high: u16) -> Sm
             })
         }
         Number::Fault(fault) => Small::Fault(fault),
+    }
+}
+
+/// Reads the answer at the place `at`: 01's number, which has to be 0, or 7 to `high`.
+pub fn read_answer(list: &[u8], at: usize, high: u16) -> Small {
+    match read_small(list, at, Item::Answer, 0, high) {
+        Small::Read(read) => {
+            let value = read.value;
+            if 0 < value {
+                if value < 7 {
+                    return Small::Fault(Fault {
+                        at,
+                        item: Item::Answer,
+                        why: Why::NoAnswer {
+                            value: value as u64,
+                        },
+                    });
+                }
+            }
+            Small::Read(read)
+        }
+        Small::Fault(fault) => Small::Fault(fault),
     }
 }
 

@@ -12,13 +12,21 @@ pub fn say(before: &[u8], n: u64, after: &[u8]) {
     io::write_all(STDOUT_FILENO, after);
 }
 
+/// Writes the bits of an f64, as sixteen hexadecimal digits, with what stands before and after them.
+pub fn say_bits(before: &[u8], bits: u64, after: &[u8]) {
+    io::write_all(STDOUT_FILENO, before);
+    io::print_hex(STDOUT_FILENO, bits, 16);
+    io::write_all(STDOUT_FILENO, after);
+}
+
 /// Writes the last line of a replay: how many cases there were, and how many of them differ.
 pub fn totals(cases: u64, differ: u64) {
     say(b"", cases, b" cases, ");
     say(b"", differ, b" differ\n");
 }
 
-fn put(text: &[u8]) {
+/// Writes a text.
+pub fn put(text: &[u8]) {
     io::write_all(STDOUT_FILENO, text);
 }
 
@@ -27,11 +35,20 @@ fn put_item(item: Item) {
         Item::Format => put(b"format number"),
         Item::Cases => put(b"number of cases"),
         Item::Tag => put(b"tag"),
+        Item::Kind => put(b"kind"),
+        Item::Size => put(b"size"),
         Item::Set => put(b"set"),
         Item::Limit => put(b"limit"),
         Item::Count => put(b"number of values"),
+        Item::Samples => put(b"number of samples"),
         Item::Value => put(b"value"),
+        Item::Answer => put(b"answer"),
+        Item::Points => put(b"number of points of the dispersion series"),
+        Item::Point => put(b"point"),
         Item::Marks => put(b"marks"),
+        Item::AllMarks => put(b"number of marks"),
+        Item::NoneStands => put(b"whether none stands"),
+        Item::Figure => put(b"sigma figure"),
         Item::End => put(b"end"),
     }
 }
@@ -49,6 +66,7 @@ fn put_why(why: Why) {
         Why::Cut => put(b": the bytes end before it does"),
         Why::Form => put(b" is longer than its shortest form or over 64 bits"),
         Why::Range { value, low, high } => put_range(value, low, high),
+        Why::NoAnswer { value } => say(b" is ", value, b", which no list has"),
         Why::NotFinite => put(b" is not finite"),
         Why::LeftOver => put(b": bytes are left over"),
         Why::TooLong => say(b": a list has at most ", MOST_BYTES as u64, b" bytes"),

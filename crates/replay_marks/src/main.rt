@@ -3,9 +3,11 @@
 // cases there are and how many of them differ; or, where the bytes are no list, last a line that says at which byte and
 // why.
 use libc::STDIN_FILENO;
+use lists::Apart;
 use lists::Fault;
 use lists::Item;
 use lists::Number;
+use lists::Parting;
 use lists::Passed;
 use lists::Small;
 use rules::Limits;
@@ -13,7 +15,7 @@ use sets::RuleSet;
 ghost use mathlib.Core.Path.{_≡_};
 ghost use Prim.Native.Nat.{_+_, _≤_};
 ghost use lib.ListN.{length};
-ghost use Rattle.replay_marks.specs.Compared.{Compared};
+ghost use Rattle.replay_marks.specs.Compared.{OnlyIf};
 
 // The tag of a marks case.
 const MARKS_CASE: u16 = 1;
@@ -34,9 +36,9 @@ enum Outcome {
     // Marking is refused, by 01's number.
     Refused(u8),
     // The first marks that are not as stored.
-    Marks { at: usize, ours: u16, stored: u16 },
+    Marks(Parting),
     // The first entry past the last that is written to.
-    Overrun { at: usize, ours: u16 },
+    Overrun(Parting),
 }
 
 // What a case comes to and the place just past it; or why there is no case.
@@ -48,25 +50,17 @@ enum Replayed {
 // Holds our entries to the right ones, of which the first n are the stored marks.
 fn compare(ours: &[u16], right: &[u16], n: usize) -> Outcome
     requires { ⌜ length (now ours) ≡ length (now right) ⌝ }
-    ensures { λ r. ⌜ Compared (now (ours .entry)) (now (right .entry)) r ⌝ }
+    ensures { λ r. ⌜ OnlyIf (now (ours .entry) ≡ now (right .entry)) r ⌝ }
 {
-    let mut i = 0;
-    while i < ours.len() {
-        let is = ours[i];
-        let stored = right[i];
-        if is != stored {
-            if i < n {
-                return Outcome::Marks {
-                    at: i,
-                    ours: is,
-                    stored,
-                };
+    match lists::marks_apart(ours, right) {
+        Apart::Nowhere => Outcome::Same,
+        Apart::At(parting) => {
+            if parting.at < n {
+                return Outcome::Marks(parting);
             }
-            return Outcome::Overrun { at: i, ours: is };
+            Outcome::Overrun(parting)
         }
-        i += 1;
     }
-    Outcome::Same
 }
 
 // Marks the values, and compares.
@@ -162,17 +156,17 @@ fn tell(k: u64, outcome: Outcome) -> u64
             lists::say(b"case ", k, b": answer: stored 0");
             lists::say(b", ours ", answer as u64, b"\n");
         }
-        Outcome::Marks { at, ours, stored } => {
+        Outcome::Marks(p) => {
             lists::say(b"case ", k, b": marks at ");
-            lists::say(b"", at as u64, b": stored ");
-            lists::say(b"", stored as u64, b", ours ");
-            lists::say(b"", ours as u64, b"\n");
+            lists::say(b"", p.at as u64, b": stored ");
+            lists::say(b"", p.right, b", ours ");
+            lists::say(b"", p.ours, b"\n");
         }
-        Outcome::Overrun { at, ours } => {
+        Outcome::Overrun(p) => {
             lists::say(b"case ", k, b": entry ");
-            lists::say(b"", at as u64, b" past the last: untouched ");
-            lists::say(b"", UNTOUCHED as u64, b", ours ");
-            lists::say(b"", ours as u64, b"\n");
+            lists::say(b"", p.at as u64, b" past the last: untouched ");
+            lists::say(b"", p.right, b", ours ");
+            lists::say(b"", p.ours, b"\n");
         }
     }
     1

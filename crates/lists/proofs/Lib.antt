@@ -1,0 +1,3 @@
+-- The laws of comparing.
+mod Nan
+mod Matching
