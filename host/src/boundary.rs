@@ -1,0 +1,85 @@
+//! The library's four functions, and the reading of their answers.
+
+use crate::{Limits, Refusal, RuleSet};
+
+extern "C" {
+    fn dramulenz_mark(
+        values: *const u8,
+        values_len: usize,
+        ucl: f64,
+        cl: f64,
+        lcl: f64,
+        set: u32,
+        marks: *mut u8,
+        marks_len: usize,
+    ) -> u64;
+    fn dramulenz_check(
+        values: *const u8,
+        values_len: usize,
+        ucl: f64,
+        cl: f64,
+        lcl: f64,
+        set: u32,
+        sheet: *const u8,
+        sheet_len: usize,
+    ) -> u64;
+    fn dramulenz_write(
+        values: *const u8,
+        values_len: usize,
+        ucl: f64,
+        cl: f64,
+        lcl: f64,
+        set: u32,
+        sheet: *mut u8,
+        sheet_len: usize,
+    ) -> u64;
+    fn dramulenz_root(x: f64) -> f64;
+}
+
+pub fn mark(values: &[u8], limits: Limits, set: RuleSet, marks: &mut [u8]) -> Result<u64, Refusal> {
+    let Limits { ucl, cl, lcl } = limits;
+    let (at, len) = (marks.as_mut_ptr(), marks.len());
+    // SAFETY: each pointer comes with the length of the slice that it is taken from. The library reads
+    // and writes within them, keeps neither, and the two are apart, since one is lent for writing.
+    read(unsafe { dramulenz_mark(values.as_ptr(), values.len(), ucl, cl, lcl, set.0, at, len) })
+}
+
+pub fn check(values: &[u8], limits: Limits, set: RuleSet, sheet: &[u8]) -> Result<u64, Refusal> {
+    let Limits { ucl, cl, lcl } = limits;
+    let (at, len) = (sheet.as_ptr(), sheet.len());
+    // SAFETY: as in `mark`; the library writes to neither.
+    read(unsafe { dramulenz_check(values.as_ptr(), values.len(), ucl, cl, lcl, set.0, at, len) })
+}
+
+pub fn write(values: &[u8], limits: Limits, set: RuleSet, out: &mut [u8]) -> Result<u64, Refusal> {
+    let Limits { ucl, cl, lcl } = limits;
+    let (at, len) = (out.as_mut_ptr(), out.len());
+    // SAFETY: as in `mark`.
+    read(unsafe { dramulenz_write(values.as_ptr(), values.len(), ucl, cl, lcl, set.0, at, len) })
+}
+
+pub fn root(x: f64) -> f64 {
+    // SAFETY: the function takes any f64 and touches no memory.
+    unsafe { dramulenz_root(x) }
+}
+
+/// What an answer says: its number stands in bits 0 to 7, what belongs to it in those above. Where it
+/// is 0, those above are what is answered.
+fn read(answer: u64) -> Result<u64, Refusal> {
+    Err(match answer & 0xff {
+        0 => return Ok(answer >> 8),
+        2 => Refusal::Length,
+        3 => Refusal::NotFinite,
+        4 => Refusal::SetTooLarge,
+        5 => Refusal::TooMany,
+        6 => Refusal::TooShort,
+        9 => Refusal::Form { at: (answer >> 8) as usize },
+        10 => Refusal::Differs,
+        // 11: it is proved that there is no other.
+        _ => Refusal::Wrong {
+            at: (answer >> 8) as u16 as usize,
+            right: (answer >> 24) as u16,
+            stated: (answer >> 40) as u16,
+        },
+    })
+}

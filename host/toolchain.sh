@@ -1,0 +1,61 @@
+# shellcheck shell=sh
+# host/toolchain.sh: read by host/test and bench/run, in the repository's root. The library is code for
+# x86-64, so Rust that links it must be compiled for x86-64 too, and on another machine run by the
+# kit's emulator.
+
+# The proved library. What it is made of is proved again only where something has changed.
+make_library() {
+    [ -z "${DRAMULENZ_LIB_DIR:-}" ] || return 0
+    made=target/staticlib/libtwin.a
+    if [ -f "$made" ] && [ -z "$(find crates crates.txt -type f -newer "$made")" ]; then return 0; fi
+    mkdir -p target/log
+    rt staticlib twin >target/log/staticlib 2>&1 && return 0
+    tail -n 5 target/log/staticlib >&2
+    return 1
+}
+
+# Sets rust, the rustc to call; words, what it wants for x86-64; and runner, what runs the programs.
+# Where something is missing: sets missing to what it is, and is false.
+find_toolchain() {
+    rust='' words='' runner='' missing=''
+    if [ "$(uname -m)" = x86_64 ]; then
+        rust=$(command -v rustc) || missing='there is no rustc'
+        [ -z "$missing" ]
+        return
+    fi
+    target=x86_64-unknown-linux-gnu
+    for one in "$(command -v rustc || :)" /usr/bin/rustc; do
+        if [ -n "$rust" ] || [ ! -x "$one" ]; then continue; fi
+        std=$("$one" --print target-libdir --target $target 2>/dev/null) || continue
+        ! ls "$std"/libstd-*.rlib >/dev/null 2>&1 || rust=$one
+    done
+    guide=$(rt doc 2>/dev/null) || guide=''
+    tools=${guide%/docs/*}/on/$(uname -m)/toolchain
+    runner=$tools/bin/qemu-x86_64
+    if [ -z "$rust" ]; then missing="no rustc here has the standard library for $target"
+    elif ! command -v x86_64-linux-gnu-gcc >/dev/null; then missing='there is no x86_64-linux-gnu-gcc'
+    elif [ -z "$guide" ]; then missing='there is no rt'
+    elif [ ! -x "$runner" ]; then missing="rt's kit has no emulator for $(uname -m)"
+    fi
+    [ -z "$missing" ] || return 1
+
+    # The programs load the kit's C library, as those that rt makes do. A Rust program asks at its start
+    # where its stack lies, which the C library looks up in /proc/self/maps, and there the kit's emulator
+    # may fail; so the question is answered with an error, which Rust takes for 'not known'.
+    mkdir -p target/x86
+    echo 'int pthread_getattr_np(void) { return 38; }' | x86_64-linux-gnu-gcc -c -x c -o target/x86/stack.o -
+    words="--target $target -C linker=x86_64-linux-gnu-gcc -C link-arg=$PWD/target/x86/stack.o"
+    words="$words -C link-arg=-Wl,--dynamic-linker=$tools/lib/ld-linux-x86-64.so.2,-rpath,$tools/lib"
+}
+
+# Gets what find_toolchain misses, in a gate alone (CI=true): nobody else's machine is changed.
+install_toolchain() {
+    [ "${CI:-}" = true ] && [ "$(uname -m)" != x86_64 ] && [ "$(id -u)" = 0 ] || return 0
+    command -v apt-get >/dev/null || return 0
+    export DEBIAN_FRONTEND=noninteractive
+    {
+        dpkg --add-architecture amd64 && apt-get update &&
+            apt-get install -y --no-install-recommends \
+                rustc libstd-rust-dev:amd64 gcc-x86-64-linux-gnu libc6-dev-amd64-cross
+    } >/dev/null 2>&1 </dev/null || :
+}
