@@ -3,11 +3,14 @@
 # x86-64, so Rust that links it must be compiled for x86-64 too, and on another machine run by the
 # kit's emulator.
 
-# The proved library. What it is made of is proved again only where something has changed.
+# Whether a file is there and nothing that it is made of has changed since.
+up_to_date() { # FILE
+    [ -f "$1" ] && [ -z "$(find crates crates.txt bench/evaluate.rattle -type f -newer "$1")" ]
+}
+
+# The proved library, where it is not to be had elsewhere.
 make_library() {
-    [ -z "${DRAMULENZ_LIB_DIR:-}" ] || return 0
-    made=target/staticlib/libtwin.a
-    if [ -f "$made" ] && [ -z "$(find crates crates.txt -type f -newer "$made")" ]; then return 0; fi
+    if [ -n "${DRAMULENZ_LIB_DIR:-}" ] || up_to_date target/staticlib/libtwin.a; then return 0; fi
     mkdir -p target/log
     rt staticlib twin >target/log/staticlib 2>&1 && return 0
     tail -n 5 target/log/staticlib >&2

@@ -1,0 +1,60 @@
+//! The flows that are marked, checked and evaluated: the same numbers at every run.
+
+use u_analytics::spc::chart::ControlLimits;
+
+/// As many as a series may have.
+pub const POINTS: usize = 4096;
+
+pub const LIMITS: ControlLimits = ControlLimits { ucl: 28.0, cl: 25.0, lcl: 22.0 };
+
+/// splitmix64, as the oracle has it.
+struct Random(u64);
+
+impl Random {
+    fn bits(&mut self) -> u64 {
+        self.0 = self.0.wrapping_add(0x9e37_79b9_7f4a_7c15);
+        let mut z = self.0;
+        z = (z ^ (z >> 30)).wrapping_mul(0xbf58_476d_1ce4_e5b9);
+        z = (z ^ (z >> 27)).wrapping_mul(0x94d0_49bb_1331_11eb);
+        z ^ (z >> 31)
+    }
+
+    fn unit(&mut self) -> f64 {
+        (self.bits() >> 11) as f64 / (1u64 << 53) as f64
+    }
+
+    /// Bell-shaped with mean 0 and deviation 1: twelve units less six.
+    fn bell(&mut self) -> f64 {
+        (0..12).map(|_| self.unit()).sum::<f64>() - 6.0
+    }
+}
+
+/// Bell-shaped about the centre, with the deviation that the limits are made for.
+pub fn in_control() -> Vec<f64> {
+    let mut random = Random(1);
+    (0..POINTS).map(|_| 25.0 + random.bell()).collect()
+}
+
+/// Half of the values about 23.5 and half about 26.5, in no order.
+pub fn two_peaked() -> Vec<f64> {
+    let mut random = Random(2);
+    let peak = |bits: u64| if bits % 2 == 0 { 23.5 } else { 26.5 };
+    (0..POINTS).map(|_| peak(random.bits()) + random.bell() / 2.0).collect()
+}
+
+/// One value throughout.
+pub fn constant(value: f64) -> Vec<f64> {
+    vec![value; POINTS]
+}
+
+/// Positive f64 of every magnitude.
+pub fn positive() -> Vec<f64> {
+    let mut random = Random(3);
+    let any = std::iter::repeat_with(|| f64::from_bits(random.bits() >> 1));
+    any.filter(|x| x.is_finite()).take(POINTS).collect()
+}
+
+/// The values as bytes, low byte first.
+pub fn bytes_of(values: &[f64]) -> Vec<u8> {
+    values.iter().flat_map(|v| v.to_le_bytes()).collect()
+}

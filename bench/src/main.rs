@@ -1,0 +1,130 @@
+//! How long our calls take, and the Rust's for the same. README.md says what each line means.
+
+mod data;
+mod ours;
+mod rust;
+mod time;
+
+use data::{LIMITS, POINTS};
+use time::{keep, medians, opaque};
+
+const SHEWHART: u16 = 1;
+const NELSON: u16 = 255;
+const WESTERN_ELECTRIC: u16 = 305;
+
+fn main() {
+    let word = std::env::args().nth(1);
+    let turns = word.and_then(|w| w.parse().ok()).expect("a number of turns");
+    marking(turns);
+    sheets(turns);
+    roots(turns);
+    evaluating(turns);
+}
+
+fn marking(turns: usize) {
+    println!();
+    println!(
+        "{:<36}{:>8}{:>16}{:>8}{:>18}{:>8}",
+        "marking, ns a point", "ours", "Rust, points", "ratio", "Rust, bytes", "ratio"
+    );
+    for (name, set, values) in [
+        ("nelson, in control", NELSON, data::in_control()),
+        ("nelson, two-peaked", NELSON, data::two_peaked()),
+        ("nelson, constant", NELSON, data::constant(25.0)),
+        ("western_electric, in control", WESTERN_ELECTRIC, data::in_control()),
+        ("shewhart, in control", SHEWHART, data::in_control()),
+    ] {
+        let (bytes, points) = (data::bytes_of(&values), rust::points_of(values.into_iter()));
+        let rules = rust::set_of(set);
+        let mut marks = vec![0; 2 * POINTS];
+        assert_eq!(ours::mark(&bytes, set, &mut marks), 0);
+        assert_eq!(marks, rust::marks_of(&rust::mark(&points, rules), POINTS), "marks differ: {name}");
+
+        let [mine, ready, from_bytes] = medians(
+            turns,
+            [
+                &mut || keep(ours::mark(opaque(&bytes), set, &mut marks)),
+                &mut || keep(rust::mark(opaque(&points), rules)),
+                &mut || keep(rust::mark(&rust::points_from_bytes(opaque(&bytes)), rules)),
+            ],
+        )
+        .map(|t| t / POINTS as f64);
+        let (to_ready, to_bytes) = (mine / ready, mine / from_bytes);
+        println!("{name:<36}{mine:>8.2}{ready:>16.2}{to_ready:>8.2}{from_bytes:>18.2}{to_bytes:>8.2}");
+    }
+}
+
+fn sheets(turns: usize) {
+    println!();
+    println!(
+        "{:<36}{:>8}{:>16}{:>8}{:>18}{:>8}",
+        "sheets, ns a point", "marking", "checking", "ratio", "writing", "ratio"
+    );
+    for (name, set, values) in [
+        ("nelson, few marked", NELSON, data::in_control()),
+        ("nelson, nearly all marked", NELSON, data::constant(LIMITS.cl + 1.5)),
+        ("shewhart, in control", SHEWHART, data::in_control()),
+        ("shewhart, all marked", SHEWHART, data::constant(LIMITS.ucl + 0.5)),
+    ] {
+        let bytes = data::bytes_of(&values);
+        let (mut marks, mut room) = (vec![0; 2 * POINTS], vec![0; 8 * POINTS]);
+        let answer = ours::write(&bytes, set, &mut room);
+        assert_eq!(answer & 0xff, 0);
+        let sheet = room[..(answer >> 8) as usize].to_vec();
+        assert_eq!(ours::check(&bytes, set, &sheet), 0, "the sheet is refused: {name}");
+
+        let [marking, checking, writing] = medians(
+            turns,
+            [
+                &mut || keep(ours::mark(opaque(&bytes), set, &mut marks)),
+                &mut || keep(ours::check(opaque(&bytes), set, &sheet)),
+                &mut || keep(ours::write(opaque(&bytes), set, &mut room)),
+            ],
+        )
+        .map(|t| t / POINTS as f64);
+        let (check, write) = (checking / marking, writing / marking);
+        println!("{name:<36}{marking:>8.2}{checking:>16.2}{check:>8.2}{writing:>18.2}{write:>8.2}");
+    }
+}
+
+fn roots(turns: usize) {
+    let numbers = data::positive();
+    for &x in &numbers {
+        assert_eq!(ours::root(x).to_bits(), x.sqrt().to_bits(), "roots differ: of {x:e}");
+    }
+    let [mine, machine] = medians(
+        turns,
+        [&mut || numbers.iter().for_each(|&x| keep(ours::root(opaque(x)))), &mut || {
+            numbers.iter().for_each(|&x| keep(opaque(x).sqrt()))
+        }],
+    )
+    .map(|t| t / numbers.len() as f64);
+    println!();
+    println!("{:<36}{:>8}{:>16}{:>8}", "root, ns each", "ours", "the machine's", "ratio");
+    println!("{:<36}{mine:>8.2}{machine:>16.2}{:>8.2}", "any magnitude", mine / machine);
+}
+
+fn evaluating(turns: usize) {
+    println!();
+    println!("{:<36}{:>8}{:>16}{:>8}", "evaluating, nelson, ns a value", "ours", "Rust", "ratio");
+    for (name, kind, size) in
+        [("individuals, 4,096", 1, 1), ("X-bar-R, 819 of 5", 2, 5), ("X-bar-S, 819 of 5", 3, 5)]
+    {
+        let mut values = data::in_control();
+        values.truncate(values.len() / size * size);
+        let rules = rust::set_of(NELSON);
+        let mut room = ours::Room::new(values.len());
+        let mut chart = Some(rust::Chart::new(kind, size, &values).with_rules(rules));
+        let marks = chart.as_ref().map(|c| c.number_of_marks() as u64);
+        assert_eq!(Some(room.evaluate(kind, size, NELSON, &values)), marks, "evaluations differ: {name}");
+
+        let [mine, theirs] = medians(
+            turns,
+            [&mut || keep(room.evaluate(kind, size, NELSON, opaque(&values))), &mut || {
+                chart = opaque(chart.take()).map(|c| c.with_rules(rules))
+            }],
+        )
+        .map(|t| t / values.len() as f64);
+        println!("{name:<36}{mine:>8.2}{theirs:>16.2}{:>8.2}", mine / theirs);
+    }
+}

@@ -1,0 +1,126 @@
+//! Our calls, as the static libraries have them.
+
+use crate::data::LIMITS;
+
+extern "C" {
+    fn dramulenz_mark(
+        v: *const u8,
+        n: usize,
+        ucl: f64,
+        cl: f64,
+        lcl: f64,
+        set: u32,
+        to: *mut u8,
+        room: usize,
+    ) -> u64;
+    fn dramulenz_check(
+        v: *const u8,
+        n: usize,
+        ucl: f64,
+        cl: f64,
+        lcl: f64,
+        set: u32,
+        sheet: *const u8,
+        len: usize,
+    ) -> u64;
+    fn dramulenz_write(
+        v: *const u8,
+        n: usize,
+        ucl: f64,
+        cl: f64,
+        lcl: f64,
+        set: u32,
+        to: *mut u8,
+        room: usize,
+    ) -> u64;
+    fn dramulenz_root(x: f64) -> f64;
+    fn bench_evaluate(
+        kind: u64,
+        size: usize,
+        count: usize,
+        set: u16,
+        values: *const f64,
+        values_len: usize,
+        main: *mut f64,
+        main_len: usize,
+        dispersion: *mut f64,
+        dispersion_len: usize,
+        main_marks: *mut u16,
+        main_marks_len: usize,
+        dispersion_marks: *mut u16,
+        dispersion_marks_len: usize,
+    ) -> u64;
+}
+
+// SAFETY, of all of these: each pointer comes with the length of the slice that it is taken from, the library
+// keeps within it, and what it writes to is lent for writing and so apart from the others.
+
+pub fn mark(values: &[u8], set: u16, marks: &mut [u8]) -> u64 {
+    let (to, room) = (marks.as_mut_ptr(), marks.len());
+    unsafe {
+        dramulenz_mark(values.as_ptr(), values.len(), LIMITS.ucl, LIMITS.cl, LIMITS.lcl, set.into(), to, room)
+    }
+}
+
+pub fn check(values: &[u8], set: u16, sheet: &[u8]) -> u64 {
+    let (at, len) = (sheet.as_ptr(), sheet.len());
+    unsafe {
+        dramulenz_check(values.as_ptr(), values.len(), LIMITS.ucl, LIMITS.cl, LIMITS.lcl, set.into(), at, len)
+    }
+}
+
+pub fn write(values: &[u8], set: u16, sheet: &mut [u8]) -> u64 {
+    let (to, room) = (sheet.as_mut_ptr(), sheet.len());
+    unsafe {
+        dramulenz_write(
+            values.as_ptr(),
+            values.len(),
+            LIMITS.ucl,
+            LIMITS.cl,
+            LIMITS.lcl,
+            set.into(),
+            to,
+            room,
+        )
+    }
+}
+
+pub fn root(x: f64) -> f64 {
+    unsafe { dramulenz_root(x) }
+}
+
+/// The four slices that an evaluation fills, each with room for every value.
+pub struct Room {
+    series: [Vec<f64>; 2],
+    marks: [Vec<u16>; 2],
+}
+
+impl Room {
+    pub fn new(values: usize) -> Self {
+        Room { series: [vec![0.0; values], vec![0.0; values]], marks: [vec![0; values], vec![0; values]] }
+    }
+
+    /// The number of marks.
+    pub fn evaluate(&mut self, kind: u64, size: usize, set: u16, values: &[f64]) -> u64 {
+        let count = values.len() / size;
+        let ([main, dispersion], [main_marks, dispersion_marks]) = (&mut self.series, &mut self.marks);
+        unsafe {
+            bench_evaluate(
+                kind,
+                size,
+                count,
+                set,
+                values.as_ptr(),
+                values.len(),
+                main.as_mut_ptr(),
+                main.len(),
+                dispersion.as_mut_ptr(),
+                dispersion.len(),
+                main_marks.as_mut_ptr(),
+                main_marks.len(),
+                dispersion_marks.as_mut_ptr(),
+                dispersion_marks.len(),
+            )
+        }
+    }
+}

@@ -1,0 +1,53 @@
+//! Measuring: contenders take turns, and of each the median is told.
+
+use std::time::{Duration, Instant};
+
+/// How long one measurement takes at least, by repeating the call: far above what the clock can tell apart.
+const LEAST: Duration = Duration::from_micros(500);
+
+/// The same value, of which the compiler knows nothing any more.
+pub fn opaque<T>(value: T) -> T {
+    // SAFETY: the value is read once from where it stands, and then forgotten there.
+    unsafe {
+        let read = std::ptr::read_volatile(&value);
+        std::mem::forget(value);
+        read
+    }
+}
+
+/// Has a value worked out that nobody looks at.
+pub fn keep<T>(value: T) {
+    opaque(value);
+}
+
+/// The median time of one call of each contender, in nanoseconds. In each of the turns every contender is
+/// measured once, so that what slows the machine for a while slows all of them.
+pub fn medians<const N: usize>(turns: usize, mut contenders: [&mut dyn FnMut(); N]) -> [f64; N] {
+    let repeats: Vec<u32> = contenders.iter_mut().map(|call| repeats_of(call)).collect();
+    let mut times: [Vec<f64>; N] = [(); N].map(|()| Vec::new());
+    for _ in 0..turns {
+        for (k, call) in contenders.iter_mut().enumerate() {
+            times[k].push(time(repeats[k], call).as_nanos() as f64 / f64::from(repeats[k]));
+        }
+    }
+    times.map(|mut of_one| {
+        of_one.sort_by(f64::total_cmp);
+        of_one[of_one.len() / 2]
+    })
+}
+
+fn repeats_of(call: &mut dyn FnMut()) -> u32 {
+    let mut repeats = 1;
+    while time(repeats, call) < LEAST {
+        repeats *= 2;
+    }
+    repeats
+}
+
+fn time(repeats: u32, call: &mut dyn FnMut()) -> Duration {
+    let begun = Instant::now();
+    for _ in 0..repeats {
+        call();
+    }
+    begun.elapsed()
+}
