@@ -36,11 +36,11 @@ pub fn check(values: &[u8], limits: Limits, set: RuleSet, sheet: &[u8]) -> Resul
     boundary::check(values, limits, set, sheet).map(|_| ())
 }
 
-/// [`write`](crate::write) over bytes.
+/// [`write`](fn@crate::write) over bytes.
 ///
 /// # Errors
 ///
-/// [`Refusal::Length`], then as [`write`](crate::write).
+/// [`Refusal::Length`], then as [`write`](fn@crate::write).
 pub fn write(values: &[u8], limits: Limits, set: RuleSet, out: &mut [u8]) -> Result<usize, Refusal> {
     boundary::write(values, limits, set, out).map(|length| length as usize)
 }

@@ -2,7 +2,7 @@
 //!
 //! A station on the floor watches a series of values against the limits of its control chart and
 //! sends a *mark sheet*: which points show which of the nine run tests. [`mark`] gives the marks of
-//! a series, [`write`] the one true sheet, and [`check`] accepts exactly that sheet and tells of any
+//! a series, [`write`](fn@write) the one true sheet, and [`check`] accepts exactly that sheet and tells of any
 //! other where it is wrong. This package only hands slices on to the library and reads its answers;
 //! document 01 of the repository says what each answer is, to the bit.
 //!
@@ -35,7 +35,7 @@
 //!
 //! | call | order |
 //! |---|---|
-//! | [`mark`], [`write`] | `TooMany`, `SetTooLarge`, `NotFinite`, `TooShort` |
+//! | [`mark`], [`write`](fn@write) | `TooMany`, `SetTooLarge`, `NotFinite`, `TooShort` |
 //! | [`check`] | `TooMany`, `SetTooLarge`, `NotFinite`, `Form`, `Differs`, `Wrong` |
 //! | those of [`bytes`] | `Length`, then the same |
 //! | [`root`] | `NotFinite` |
@@ -135,7 +135,7 @@ pub fn mark(values: &[f64], limits: Limits, set: RuleSet, marks: &mut [u16]) -> 
     views::with_marks(marks, |marks| bytes::mark(&views::of_values(values), limits, set, marks))
 }
 
-/// Checks a sheet against the values that it is about: `Ok` exactly if it is the one that [`write`]
+/// Checks a sheet against the values that it is about: `Ok` exactly if it is the one that [`write`](fn@write)
 /// would write.
 ///
 /// # Errors
