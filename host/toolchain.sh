@@ -21,7 +21,9 @@ make_library() {
 # Where something is missing: sets missing to what it is, and is false.
 find_toolchain() {
     rust='' words='' runner='' missing=''
+    guide=$(rt doc 2>/dev/null) || missing='there is no rt'
     if [ "$(uname -m)" = x86_64 ]; then
+        command -v cargo >/dev/null || missing='there is no cargo'
         rust=$(command -v rustc) || missing='there is no rustc'
         [ -z "$missing" ]
         return
@@ -32,14 +34,11 @@ find_toolchain() {
         std=$("$one" --print target-libdir --target $target 2>/dev/null) || continue
         ! ls "$std"/libstd-*.rlib >/dev/null 2>&1 || rust=$one
     done
-    guide=$(rt doc 2>/dev/null) || guide=''
     tools=${guide%/docs/*}/on/$(uname -m)/toolchain
     runner=$tools/bin/qemu-x86_64
-    if [ -z "$rust" ]; then missing="no rustc here has the standard library for $target"
-    elif ! command -v x86_64-linux-gnu-gcc >/dev/null; then missing='there is no x86_64-linux-gnu-gcc'
-    elif [ -z "$guide" ]; then missing='there is no rt'
-    elif [ ! -x "$runner" ]; then missing="rt's kit has no emulator for $(uname -m)"
-    fi
+    [ -x "$runner" ] || missing=${missing:-"rt's kit has no emulator for $(uname -m)"}
+    command -v x86_64-linux-gnu-gcc >/dev/null || missing='there is no x86_64-linux-gnu-gcc'
+    [ -n "$rust" ] || missing="no rustc here has the standard library for $target"
     [ -z "$missing" ] || return 1
 
     # The programs load the kit's C library, as those that rt makes do. A Rust program asks at its start
