@@ -11,6 +11,7 @@ use time::{keep, medians, opaque};
 const SHEWHART: u16 = 1;
 const NELSON: u16 = 255;
 const WESTERN_ELECTRIC: u16 = 305;
+const EIGHT_ONE_SIDE: u16 = 1 << 8;
 
 fn main() {
     let word = std::env::args().nth(1);
@@ -33,6 +34,7 @@ fn marking(turns: usize) {
         ("nelson, constant", NELSON, data::constant(25.0)),
         ("western_electric, in control", WESTERN_ELECTRIC, data::in_control()),
         ("shewhart, in control", SHEWHART, data::in_control()),
+        ("one other test, in control", EIGHT_ONE_SIDE, data::in_control()),
     ] {
         let (bytes, points) = (data::bytes_of(&values), rust::points_of(values.into_iter()));
         let rules = rust::set_of(set);
