@@ -4,8 +4,9 @@ pub mod Sheets
 mod Reading
 mod Comparing
 mod Writing
-mod Judging
+pub mod Judging
 mod Accepting
 pub mod Answers
 pub mod Demand
+pub mod Places
 mod Examples
