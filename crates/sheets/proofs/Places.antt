@@ -248,17 +248,29 @@ entries-long skip (cons {m} {ms} x a) h = by (eqb m 0) refl (entries-long (suc s
     by true t skipped put = let z : m ≡ 0 = eqb-true m 0 t in rw (z, entriesOf-zero skip ms) (omega arith)
     by false t skipped put =
         rw (entriesOf-mark skip m ms (eqb-false m 0 t))
-        (omega (arith, length-append (groups skip) (groups m ++ entriesOf 0 ms), length-append (groups m) (entriesOf 0 ms),
-          ten-bytes skip (omega arith), ten-bytes m (omega arith)))
+        (omega (
+          arith,
+          length-append (groups skip) (groups m ++ entriesOf 0 ms),
+          length-append (groups m) (entriesOf 0 ms),
+          ten-bytes skip (omega arith),
+          ten-bytes m (omega arith),
+        ))
 
 sheet-long : (set : ℕ) (ms : List ℕ) → set ≤ 511 → length ms ≤ 4096 → Small 511 ms → length (sheetOf set ms) ≤ 81950
 unfolding sheetOf
 sheet-long set ms low few small =
     let fewer = marked-le ms in
     let tail = groups (marked ms) ++ entriesOf 0 ms in
-    omega (arith, length-append (groups (length ms)) (groups set ++ tail), length-append (groups set) tail,
-      length-append (groups (marked ms)) (entriesOf 0 ms), ten-bytes (length ms) (omega arith), ten-bytes set (omega arith),
-      ten-bytes (marked ms) (omega arith), entries-long 0 small (omega arith))
+    omega (
+      arith,
+      length-append (groups (length ms)) (groups set ++ tail),
+      length-append (groups set) tail,
+      length-append (groups (marked ms)) (entriesOf 0 ms),
+      ten-bytes (length ms) (omega arith),
+      ten-bytes set (omega arith),
+      ten-bytes (marked ms) (omega arith),
+      entries-long 0 small (omega arith),
+    )
 
 -- what the writer answers: a number alone, or the length of a sheet
 pub data Short : ℕ × ℕ → Type 0 where
