@@ -27,7 +27,8 @@ limits = record { ucl = fin false 7 (pos 2); cl = fin false 25 (pos 0); lcl = fi
 
 -- into a room of four bytes: the sheet `00 01 00`, its length in bits 8 and up, and the fourth byte as it came
 row-11-written : (writeNumber limits 1 [] (7 ∷ 7 ∷ 7 ∷ 7 ∷ []) ≡ 0x300) × (writeRoom limits 1 [] (7 ∷ 7 ∷ 7 ∷ 7 ∷ []) ≡ 0 ∷ 1 ∷ 0 ∷ 7 ∷ [])
-unfolding writeNumber writeRoom writeOf roomAfter firstOf answerOf finiteLimits allFinite finite every floatsOf tabulateFrom seriesSheet marksOf sheetOf marked count entriesOf groups
+unfolding writeNumber writeRoom writeOf roomAfter firstOf answerOf finiteLimits allFinite finite every floatsOf tabulateFrom
+    seriesSheet marksOf sheetOf marked count entriesOf groups
 row-11-written = (refl, refl)
 
 -- it is accepted; without its last byte it has a fault at place 2; with the set 0 it is another set's

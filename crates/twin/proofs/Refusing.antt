@@ -19,7 +19,7 @@ use Rattle.rules.proofs.Accepted.{was-accepted, accepts}
 use Rattle.sheets.specs.Answers.{checkOf, writeOf, roomAfter}
 use Rattle.sheets.proofs.Judging.{room-enough, marks-front, check-refused, write-refused, room-refused}
 use Rattle.twin.specs.Bytes.{floatsOf, notEights, bytesOf}
-use Rattle.twin.specs.Answers.{markNumber, markRoom, packed, checkNumber, packedLength, writeNumber, writeRoom}
+use Rattle.twin.specs.Answers.{markNumber, bytesAfter, markRoom, packed, checkNumber, packedLength, writeNumber, writeRoom}
 use Rattle.twin.specs.Steps.{ahead, valuesAfter}
 use Rattle.twin.proofs.FromBytes.{length-floats}
 
@@ -44,6 +44,62 @@ unfolding valuesAfter
 values-front bs set e old vs n count is =
     ap (take n) (is ∙ simp (eq-eqb (ahead bs set) 0 e))
     ∙ take-at (floatsOf bs) (drop (length (floatsOf bs)) old) n (length-floats bs ∙ sym count)
+
+-- ---- marking a series into bytes
+
+-- what is refused with room for 4,096 points is refused with any room
+any-room : (many a b d short : Bool) → (firstOf {A = ℕ} ((many, 5) ∷ (a, 4) ∷ (b, 3) ∷ (d, 3) ∷ (many, 6) ∷ []) 0 ≡ 0 → ⊥)
+    → firstOf {A = ℕ} ((many, 5) ∷ (a, 4) ∷ (b, 3) ∷ (d, 3) ∷ (many, 6) ∷ []) 0
+    ≡ firstOf ((many, 5) ∷ (a, 4) ∷ (b, 3) ∷ (d, 3) ∷ (short, 6) ∷ []) 0
+unfolding firstOf
+any-room true a b d short nz = refl
+any-room false true b d short nz = refl
+any-room false false true d short nz = refl
+any-room false false false true short nz = refl
+any-room false false false false short nz = absurd (nz refl)
+
+module _ (limits : Limits) (set : ℕ) (values : List Float) where
+  bytes-kept : (room : List ℕ) → (answerOf limits set values (length room / 2) ≡ 0 → ⊥) → room ≡ bytesAfter limits set values room
+  unfolding bytesAfter
+  bytes-kept room nz = sym (simp (ne-eqb (answerOf limits set values (length room / 2)) 0 nz))
+
+  room-last : (room : ℕ) → (answerOf limits set values 4096 ≡ 0 → ⊥) → answerOf limits set values 4096 ≡ answerOf limits set values room
+  unfolding answerOf
+  room-last room = any-room (ltb 4096 (length values)) (ltb 511 set) (not (finiteLimits limits)) (not (allFinite values)) (ltb room (length values))
+
+  pub bytes-refused : (r : ℕ) (room : List ℕ) → r ≡ answerOf limits set values 4096 → (r ≡ 0 → ⊥)
+      → (r ≡ answerOf limits set values (length room / 2)) × (room ≡ bytesAfter limits set values room)
+  bytes-refused r room is nz =
+      let answer : r ≡ answerOf limits set values (length room / 2) = is ∙ room-last (length room / 2) (λ e. nz (is ∙ e)) in
+      (answer, bytes-kept room (λ e. nz (answer ∙ e)))
+
+  module _ (done : answerOf limits set values 4096 ≡ 0) where
+    -- the marks stand at the front of 4,096 entries
+    pub marks-stand : (old ms : List ℕ) (n : ℕ) → length old ≡ 4096 → n ≡ length values → ms ≡ marksAfter limits set values old
+        → take n ms ≡ marksOf limits set values
+    marks-stand old ms n l count is = ap₂ take count is ∙ marks-front limits set values (sym (room-enough limits set values) ∙ done) old l
+
+    no-room : (room : ℕ) → room < length values → 6 ≡ answerOf limits set values room
+    unfolding answerOf firstOf
+    no-room room h =
+        let a = was-accepted limits set values 4096 done in
+        sym (simp (le-ltb 4096 (length values) (a .few), le-ltb 511 set (a .small), a .sound, a .finite, lt-ltb room (length values) h))
+
+    pub bytes-short : (room : List ℕ) → length room / 2 < length values
+        → (6 ≡ answerOf limits set values (length room / 2)) × (room ≡ bytesAfter limits set values room)
+    bytes-short room h = let answer = no-room (length room / 2) h in (answer, bytes-kept room (λ e. omega arith))
+
+    pub bytes-done : (room : List ℕ) → length values ≤ length room / 2
+        → (0 ≡ answerOf limits set values (length room / 2))
+        × (atFront (bytesOf (marksOf limits set values)) room ≡ bytesAfter limits set values room)
+    unfolding bytesAfter
+    bytes-done room h =
+        let a = was-accepted limits set values 4096 done in
+        let answer = accepts limits set values (length room / 2)
+        (record { few = a .few; small = a .small; sound = a .sound; finite = a .finite; wide = h }) in
+        (sym answer, sym (simp (eq-eqb _ 0 answer)))
+
+-- ---- behind what is refused before a value is read
 
 module _ (limits : Limits) (set : ℕ) (bs : List ℕ) where
   abbrev values : List Float
@@ -77,9 +133,15 @@ module _ (limits : Limits) (set : ℕ) (bs : List ℕ) where
   goes-on : {A : Type 0} (x whole : A) → ahead bs set ≡ 0 → whole ≡ firstOf ((notEights bs, x) ∷ []) whole
   goes-on x whole e = sym (passed (notEights bs) x [] whole (begun bs set e .eights) ∙ none-applies whole)
 
-  -- ---- checking and writing
-
   module _ (r : ℕ) (is : r ≡ ahead bs set) (nz : r ≡ 0 → ⊥) where
+    pub mark-stops : (room : List ℕ) → (r ≡ markNumber limits set bs room) × (room ≡ markRoom limits set bs room)
+    unfolding markNumber markRoom
+    mark-stops room = (
+      stops (λ n. n) (answerOf limits set values (length room / 2)) r nz (λ k h. sym (h (length room / 2))) is,
+      stops (λ n. room) (bytesAfter limits set values room) r nz
+          (λ k h. bytes-kept limits set values room (λ e. let z = h (length room / 2) in omega arith)) is,
+    )
+
     pub check-stops : (sheet : List ℕ) → r ≡ checkNumber limits set bs sheet
     unfolding checkNumber
     check-stops sheet =
@@ -99,6 +161,14 @@ module _ (limits : Limits) (set : ℕ) (bs : List ℕ) where
         )
 
   module _ (started : ahead bs set ≡ 0) where
+    pub mark-goes : (room : List ℕ) → (answerOf limits set values (length room / 2) ≡ markNumber limits set bs room)
+        × (bytesAfter limits set values room ≡ markRoom limits set bs room)
+    unfolding markNumber markRoom
+    mark-goes room = (
+      goes-on 2 (answerOf limits set values (length room / 2)) started,
+      goes-on room (bytesAfter limits set values room) started,
+    )
+
     pub check-goes : (sheet : List ℕ) → packed (checkOf limits set values sheet) ≡ checkNumber limits set bs sheet
     unfolding checkNumber
     check-goes sheet = ap packed (goes-on (2, 0, 0, 0) (checkOf limits set values sheet) started)
@@ -110,88 +180,3 @@ module _ (limits : Limits) (set : ℕ) (bs : List ℕ) where
       ap packedLength (goes-on (2, 0) (writeOf limits set values (length room)) started),
       goes-on room (roomAfter limits set values room) started,
     )
-
-  -- ---- marking
-
-  -- a refusal leaves the room as it came
-  kept : (r : ℕ) (room : List ℕ) → (r ≡ 0 → ⊥) → r ≡ markNumber limits set bs room → room ≡ markRoom limits set bs room
-  unfolding markRoom
-  kept r room nz is = sym (simp (ne-eqb (markNumber limits set bs room) 0 (λ e. nz (is ∙ e))))
-
-  pub mark-stops : (r : ℕ) (room : List ℕ) → r ≡ ahead bs set → (r ≡ 0 → ⊥)
-      → (r ≡ markNumber limits set bs room) × (room ≡ markRoom limits set bs room)
-  unfolding markNumber
-  mark-stops r room is nz =
-      let number = stops (λ n. n) (answerOf limits set values (length room / 2)) r nz (λ k h. sym (h (length room / 2))) is in
-      (number, kept r room nz number)
-
-  -- what is refused with room for every point is refused with any room
-  any-room : (a b d : Bool) (short : Bool) → (firstOf {A = ℕ} ((a, 4) ∷ (b, 3) ∷ (d, 3) ∷ (false, 6) ∷ []) 0 ≡ 0 → ⊥)
-      → firstOf {A = ℕ} ((a, 4) ∷ (b, 3) ∷ (d, 3) ∷ (false, 6) ∷ []) 0 ≡ firstOf ((a, 4) ∷ (b, 3) ∷ (d, 3) ∷ (short, 6) ∷ []) 0
-  unfolding firstOf
-  any-room true b d short nz = refl
-  any-room false true d short nz = refl
-  any-room false false true short nz = refl
-  any-room false false false short nz = absurd (nz refl)
-
-  module _ (started : ahead bs set ≡ 0) where
-    few-values : length values ≤ 4096
-    few-values = omega (arith, begun bs set started .few, length-floats bs)
-
-    room-last : (room : ℕ) → (answerOf limits set values 4096 ≡ 0 → ⊥) → answerOf limits set values 4096 ≡ answerOf limits set values room
-    unfolding answerOf
-    room-last room nz =
-        let few : ltb 4096 (length values) ≡ false = le-ltb 4096 (length values) few-values in
-        rw few
-        (passed false 5 _ 0 refl
-        ∙ any-room (ltb 511 set) (not (finiteLimits limits)) (not (allFinite values)) (ltb room (length values))
-        (λ e. nz (rw few (passed false 5 _ 0 refl ∙ e)))
-        ∙ sym (passed false 5 _ 0 refl))
-
-    pub mark-refuses : (r : ℕ) (room : List ℕ) → r ≡ answerOf limits set values 4096 → (r ≡ 0 → ⊥)
-        → (r ≡ markNumber limits set bs room) × (room ≡ markRoom limits set bs room)
-    unfolding markNumber
-    mark-refuses r room is nz =
-        let number : r ≡ firstOf ((notEights bs, 2) ∷ []) (answerOf limits set values (length room / 2)) =
-        is ∙ room-last (length room / 2) (λ e. nz (is ∙ e)) ∙ goes-on 2 (answerOf limits set values (length room / 2)) started in
-        (number, kept r room nz number)
-
-    module _ (done : answerOf limits set values 4096 ≡ 0) where
-      -- the marks stand at the front of 4,096 entries
-      pub marks-stand : (old ms : List ℕ) (n : ℕ) → length old ≡ 4096 → n ≡ length bs / 8 → ms ≡ marksAfter limits set values old
-          → take n ms ≡ marksOf limits set values
-      marks-stand old ms n l count is =
-          ap₂ take (count ∙ sym (length-floats bs)) is
-          ∙ marks-front limits set values (sym (room-enough limits set values) ∙ done) old l
-
-      no-room : (room : ℕ) → room < length bs / 8 → answerOf limits set values room ≡ 6
-      unfolding answerOf firstOf
-      no-room room h =
-          let a = was-accepted limits set values 4096 done in
-          simp (
-            le-ltb 4096 (length values) few-values,
-            le-ltb 511 set (a .small),
-            a .sound,
-            a .finite,
-            lt-ltb room (length values) (omega (arith, length-floats bs)),
-          )
-
-      pub mark-short : (room : List ℕ) → length room / 2 < length bs / 8
-          → (6 ≡ markNumber limits set bs room) × (room ≡ markRoom limits set bs room)
-      unfolding markNumber
-      mark-short room h =
-          let number : 6 ≡ firstOf ((notEights bs, 2) ∷ []) (answerOf limits set values (length room / 2)) =
-          sym (no-room (length room / 2) h) ∙ goes-on 2 (answerOf limits set values (length room / 2)) started in
-          (number, kept 6 room (λ e. omega arith) number)
-
-      pub mark-done : (room : List ℕ) → length bs / 8 ≤ length room / 2
-          → (0 ≡ markNumber limits set bs room) × (atFront (bytesOf (marksOf limits set values)) room ≡ markRoom limits set bs room)
-      unfolding markNumber markRoom
-      mark-done room h =
-          let a = was-accepted limits set values 4096 done in
-          let answer : answerOf limits set values (length room / 2) ≡ 0 =
-          accepts limits set values (length room / 2)
-          (record { few = a .few; small = a .small; sound = a .sound; finite = a .finite; wide = omega (arith, length-floats bs) }) in
-          let number : 0 ≡ firstOf ((notEights bs, 2) ∷ []) (answerOf limits set values (length room / 2)) =
-          sym answer ∙ goes-on 2 (answerOf limits set values (length room / 2)) started in
-          (number, sym (simp (eq-eqb _ 0 (sym number))))

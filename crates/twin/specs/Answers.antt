@@ -23,10 +23,13 @@ limitsOf u c l = record { ucl = u; cl = c; lcl = l }
 unfoldable pub markNumber : Limits → ℕ → List ℕ → List ℕ → ℕ
 markNumber limits set bs room = firstOf ((notEights bs, 2) ∷ []) (answerOf limits set (floatsOf bs) (length room / 2))
 
--- two bytes a point at the front where nothing was refused, else as it came
+-- the bytes of a series' marks, at the front of the room where nothing was refused; else it is as it came
+unfoldable pub bytesAfter : Limits → ℕ → List Float → List ℕ → List ℕ
+bytesAfter limits set values room =
+    cond (eqb (answerOf limits set values (length room / 2)) 0) (atFront (bytesOf (marksOf limits set values)) room) room
+
 unfoldable pub markRoom : Limits → ℕ → List ℕ → List ℕ → List ℕ
-markRoom limits set bs room =
-    cond (eqb (markNumber limits set bs room) 0) (atFront (bytesOf (marksOf limits set (floatsOf bs))) room) room
+markRoom limits set bs room = firstOf ((notEights bs, room) ∷ []) (bytesAfter limits set (floatsOf bs) room)
 
 -- ---- checking
 

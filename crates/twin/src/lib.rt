@@ -10,9 +10,11 @@ ghost use Prim.Native.Nat.{_+_, _*_, _/_, _%_, _^_, _≤_, _<_};
 ghost use lib.Ieee.{binary64, ofBits};
 ghost use lib.ListN.{length, take, drop};
 ghost use Rattle.laws.specs.Front.{atFront};
+ghost use Rattle.rules.specs.Marking.{answerOf};
 ghost use Rattle.sheets.specs.Answers.{checked, written};
 ghost use Rattle.twin.specs.Bytes.{wordOf, floatsOf, bytesOf};
-ghost use Rattle.twin.specs.Answers.{limitsOf, markNumber, markRoom, packed, checkNumber, packedLength, writeNumber, writeRoom, rootNumber};
+ghost use Rattle.twin.specs.Answers.{limitsOf, markNumber, bytesAfter, markRoom, packed, checkNumber};
+ghost use Rattle.twin.specs.Answers.{packedLength, writeNumber, writeRoom, rootNumber};
 ghost use Rattle.twin.specs.Steps.{pairAt, fourAt, ahead, valuesAfter};
 
 fn wide(b: u8) -> u64
@@ -117,6 +119,24 @@ fn put_marks(ms: &[u16], out: &mut [u8])
     }
 }
 
+// Marks a series into bytes. Marking itself has room for every point, so that 6 is left to say here.
+fn mark_values(values: &[f64], limits: Limits, set: RuleSet, marks: &mut [u8]) -> u64
+    ensures { λ r. ⌜ r ≡ answerOf limits (set .mask) (now (values .entry)) (length (now (marks .entry)) / 2) ⌝ }
+    ensures { λ r. ⌜ now (marks .exit) ≡ bytesAfter limits (set .mask) (now (values .entry)) (now (marks .entry)) ⌝ }
+{
+    let n = values.len();
+    let mut ms = [0u16; 4096];
+    let marked = rules::mark(values, limits, set, &mut ms).number();
+    if marked != 0 {
+        return wide(marked);
+    }
+    if marks.len() / 2 < n {
+        return 6;
+    }
+    put_marks(&ms[0..n], marks);
+    0
+}
+
 // A verdict in one word. It has room there: no place and no position of a verdict is as large as its bits could hold.
 fn pack(c: Checked) -> u64
     requires { ⌜ packed (checked c) < 2 ^ 64 ⌝ }
@@ -183,22 +203,12 @@ pub extern "C" fn dramulenz_mark(
     if refused != 0 {
         return refused;
     }
-    let mut ms = [0u16; 4096];
-    let marked = rules::mark(
+    mark_values(
         &vs[0..n],
         Limits { ucl, cl, lcl },
         RuleSet { mask: set as u16 },
-        &mut ms,
-    ).number();
-    if marked != 0 {
-        return wide(marked);
-    }
-    // marking had room for every point, so 6 is left to say
-    if marks.len() / 2 < n {
-        return 6;
-    }
-    put_marks(&ms[0..n], marks);
-    0
+        marks,
+    )
 }
 
 /// Checks the bytes `sheet`, whoever made them, against a series, its limits and a rule set.

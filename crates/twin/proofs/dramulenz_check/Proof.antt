@@ -1,10 +1,10 @@
 -- `twin::dramulenz_check` meets its contract. Assumes nothing.
-use Prim.Native.Nat.{ℕ, _-_, _/_, _≤_, _^_, _<_}
+use Prim.Native.Nat.{_-_, _/_, _^_, _<_}
 use native.Mathlib.Omega.{arith}
-use mathlib.Core.Path.{_≡_, sym, ap, _∙_, subst}
+use mathlib.Core.Path.{sym, ap, _∙_, subst}
 use mathlib.Core.List.{List}
-use lib.Ieee.{Float, binary64, ofBits}
-use lib.ListN.{length, take, replicate, length-replicate}
+use lib.Ieee.{Float}
+use lib.ListN.{length}
 use Rattle.sheets.specs.Answers.{Verdict, checkOf}
 use Rattle.sheets.proofs.Places.{check-bounded}
 use Rattle.twin.specs.Bytes.{floatsOf}
@@ -61,7 +61,7 @@ pack-requires c κs =
     let limits = limitsOf (args .ucl) (args .cl) (args .lcl) in
     let read = c .before .before .before .before .before .read-values in
     let started = sym (read .ensures .0) ∙ c .before .before .before .if1 .left in
-    let values = values-front bs (args .set) started (replicate 4096 (ofBits binary64 0)) (read .last .1 .1 .0) (length bs / 8 - 0) (omega arith) (read .ensures .1) in
+    let values = values-front bs (args .set) started _ (read .last .1 .1 .0) (length bs / 8 - 0) (omega arith) (read .ensures .1) in
     subst (λ (v : Verdict). packed v < 2 ^ 64)
     (sym (c .check .ensures ∙ ap (λ (vs : List Float). checkOf limits (args .set) vs (args .sheet .now)) values))
     (packed-fits (check-bounded limits (args .set) (floatsOf bs) (args .sheet .now)))
@@ -73,7 +73,7 @@ returns-2 c =
     let limits = limitsOf (args .ucl) (args .cl) (args .lcl) in
     let read = c .before .before .before .before .before .before .read-values in
     let started = sym (read .ensures .0) ∙ c .before .before .before .before .if1 .left in
-    let values = values-front bs (args .set) started (replicate 4096 (ofBits binary64 0)) (read .last .1 .1 .0) (length bs / 8 - 0) (omega arith) (read .ensures .1) in
+    let values = values-front bs (args .set) started _ (read .last .1 .1 .0) (length bs / 8 - 0) (omega arith) (read .ensures .1) in
     c .pack .ensures
     ∙ ap packed (c .before .check .ensures ∙ ap (λ (vs : List Float). checkOf limits (args .set) vs (args .sheet .now)) values)
     ∙ check-goes limits (args .set) bs started (args .sheet .now)

@@ -20,12 +20,14 @@ enum-told c = search needs
 returns : tie.Need-returns
 unfolding rootNumber
 returns c =
-    sym (ap (λ (r : Rooted). numbered r .1) (c .before .r .given .1)) ∙ ap (λ (r : Rooted). numbered r .1) (c .before .before .before .root .ensures .1)
+    sym (ap (λ (r : Rooted). numbered r .1) (c .before .r .given .1))
+    ∙ ap (λ (r : Rooted). numbered r .1) (c .before .before .before .root .ensures .1)
 
 returns-2 : tie.Need-returns-2
 unfolding rootNumber ofBits
 returns-2 c =
-    sym (ap (λ (r : Rooted). numbered r .1) (c .enum-told .given .1)) ∙ ap (λ (r : Rooted). numbered r .1) (c .before .before .root .ensures .1)
+    sym (ap (λ (r : Rooted). numbered r .1) (c .enum-told .given .1))
+    ∙ ap (λ (r : Rooted). numbered r .1) (c .before .before .root .ensures .1)
 
 pub dramulenz-root-spec : {M : Type 1} → statement M
 dramulenz-root-spec = tie.close (tie.spec root-requires enum-known-r enum-told returns returns-2)

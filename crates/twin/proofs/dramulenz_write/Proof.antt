@@ -1,10 +1,10 @@
 -- `twin::dramulenz_write` meets its contract. Assumes nothing.
-use Prim.Native.Nat.{ℕ, _-_, _/_, _≤_, _^_, _<_}
+use Prim.Native.Nat.{ℕ, _-_, _/_, _^_, _<_}
 use native.Mathlib.Omega.{arith}
-use mathlib.Core.Path.{_≡_, sym, ap, _∙_, subst}
+use mathlib.Core.Path.{sym, ap, _∙_, subst}
 use mathlib.Core.List.{List}
-use lib.Ieee.{Float, binary64, ofBits}
-use lib.ListN.{length, take, replicate, length-replicate}
+use lib.Ieee.{Float}
+use lib.ListN.{length}
 use Rattle.sheets.specs.Answers.{writeOf, roomAfter}
 use Rattle.sheets.proofs.Places.{write-short}
 use Rattle.twin.specs.Bytes.{floatsOf}
@@ -61,7 +61,7 @@ pack-length-requires c κs =
     let limits = limitsOf (args .ucl) (args .cl) (args .lcl) in
     let read = c .before .before .before .before .before .before .before .before .read-values in
     let started = sym (read .ensures .0) ∙ c .before .before .before .before .before .before .if1 .left in
-    let values = values-front bs (args .set) started (replicate 4096 (ofBits binary64 0)) (read .last .1 .1 .0) (length bs / 8 - 0) (omega arith) (read .ensures .1) in
+    let values = values-front bs (args .set) started _ (read .last .1 .1 .0) (length bs / 8 - 0) (omega arith) (read .ensures .1) in
     subst (λ (a : ℕ × ℕ). packedLength a < 2 ^ 64)
     (sym (c .before .before .write .ensures .0 ∙ ap (λ (vs : List Float). writeOf limits (args .set) vs (length (args .sheet .now))) values))
     (length-fits (write-short limits (args .set) (floatsOf bs) (length (args .sheet .now))))
@@ -76,12 +76,12 @@ returns-2 c =
     let limits = limitsOf (args .ucl) (args .cl) (args .lcl) in
     let read = c .before .before .before .before .before .before .before .before .before .read-values in
     let started = sym (read .ensures .0) ∙ c .before .before .before .before .before .before .before .if1 .left in
-    let values = values-front bs (args .set) started (replicate 4096 (ofBits binary64 0)) (read .last .1 .1 .0) (length bs / 8 - 0) (omega arith) (read .ensures .1) in
+    let values = values-front bs (args .set) started _ (read .last .1 .1 .0) (length bs / 8 - 0) (omega arith) (read .ensures .1) in
+    let write = c .before .before .before .write in
+    let answer = write .ensures .0 ∙ ap (λ (vs : List Float). writeOf limits (args .set) vs (length (args .sheet .now))) values in
     let goes = write-goes limits (args .set) bs started (args .sheet .now) in (
-      c .pack-length .ensures
-          ∙ ap packedLength (c .before .before .before .write .ensures .0 ∙ ap (λ (vs : List Float). writeOf limits (args .set) vs (length (args .sheet .now))) values)
-          ∙ goes .0,
-      c .before .before .before .write .ensures .1 ∙ ap (λ (vs : List Float). roomAfter limits (args .set) vs (args .sheet .now)) values ∙ goes .1,
+      c .pack-length .ensures ∙ ap packedLength answer ∙ goes .0,
+      write .ensures .1 ∙ ap (λ (vs : List Float). roomAfter limits (args .set) vs (args .sheet .now)) values ∙ goes .1,
     )
 
 pub dramulenz-write-spec : {M : Type 1} → statement M

@@ -26,12 +26,14 @@ enum-known-c c = search needs
 
 mul-result : tie.Need-mul-result
 mul-result c =
-    let fits = subst (λ (a : Checked). packed (checked a) < 2 ^ 64) (c .before .c .given .1) (c .before .before .before .pre) in
+    let pre = c .before .before .before .pre in
+    let fits = subst (λ (a : Checked). packed (checked a) < 2 ^ 64) (c .before .c .given .1) pre in
     omega (arith, fits)
 
 add-result : tie.Need-add-result
 add-result c =
-    let fits = subst (λ (a : Checked). packed (checked a) < 2 ^ 64) (c .before .c .given .1) (c .before .before .before .pre) in
+    let pre = c .before .before .before .pre in
+    let fits = subst (λ (a : Checked). packed (checked a) < 2 ^ 64) (c .before .c .given .1) pre in
     omega (arith, fits)
 
 enum-told-5 : tie.Need-enum-told-5
@@ -42,12 +44,14 @@ enum-known-c-2 c = search needs
 
 mul-result-2 : tie.Need-mul-result-2
 mul-result-2 c =
-    let fits = subst (λ (a : Checked). packed (checked a) < 2 ^ 64) (c .before .c2 .given .1) (c .before .before .before .pre) in
+    let pre = c .before .before .before .pre in
+    let fits = subst (λ (a : Checked). packed (checked a) < 2 ^ 64) (c .before .c2 .given .1) pre in
     omega (arith, fits)
 
 add-result-2 : tie.Need-add-result-2
 add-result-2 c =
-    let fits = subst (λ (a : Checked). packed (checked a) < 2 ^ 64) (c .before .c2 .given .1) (c .before .before .before .pre) in
+    let pre = c .before .before .before .pre in
+    let fits = subst (λ (a : Checked). packed (checked a) < 2 ^ 64) (c .before .c2 .given .1) pre in
     omega (arith, fits)
 
 wide-marks-requires : tie.Need-wide-marks-requires
@@ -55,12 +59,14 @@ wide-marks-requires c κs = search needs
 
 mul-result-3 : tie.Need-mul-result-3
 mul-result-3 c =
-    let fits = subst (λ (a : Checked). packed (checked a) < 2 ^ 64) (c .before .before .c2 .given .1) (c .before .before .before .before .pre) in
+    let pre = c .before .before .before .before .pre in
+    let fits = subst (λ (a : Checked). packed (checked a) < 2 ^ 64) (c .before .before .c2 .given .1) pre in
     omega (arith, fits, c .wide-marks .ensures)
 
 add-result-3 : tie.Need-add-result-3
 add-result-3 c =
-    let fits = subst (λ (a : Checked). packed (checked a) < 2 ^ 64) (c .before .before .c2 .given .1) (c .before .before .before .before .pre) in
+    let pre = c .before .before .before .before .pre in
+    let fits = subst (λ (a : Checked). packed (checked a) < 2 ^ 64) (c .before .before .c2 .given .1) pre in
     omega (arith, fits, c .wide-marks .ensures)
 
 wide-marks-requires-2 : tie.Need-wide-marks-requires-2
@@ -68,12 +74,14 @@ wide-marks-requires-2 c κs = search needs
 
 mul-result-4 : tie.Need-mul-result-4
 mul-result-4 c =
-    let fits = subst (λ (a : Checked). packed (checked a) < 2 ^ 64) (c .before .before .before .c2 .given .1) (c .before .before .before .before .before .pre) in
+    let pre = c .before .before .before .before .before .pre in
+    let fits = subst (λ (a : Checked). packed (checked a) < 2 ^ 64) (c .before .before .before .c2 .given .1) pre in
     omega (arith, fits, c .before .wide-marks .ensures, c .wide-marks2 .ensures)
 
 add-result-4 : tie.Need-add-result-4
 add-result-4 c =
-    let fits = subst (λ (a : Checked). packed (checked a) < 2 ^ 64) (c .before .before .before .c2 .given .1) (c .before .before .before .before .before .pre) in
+    let pre = c .before .before .before .before .before .pre in
+    let fits = subst (λ (a : Checked). packed (checked a) < 2 ^ 64) (c .before .before .before .c2 .given .1) pre in
     omega (arith, fits, c .before .wide-marks .ensures, c .wide-marks2 .ensures)
 
 returns : tie.Need-returns
@@ -96,7 +104,9 @@ returns-6 c = sym (ap (λ (a : Checked). packed (checked a)) (c .enum-told5 .giv
 
 returns-7 : tie.Need-returns-7
 returns-7 c =
-    omega (arith, ap (λ (a : Checked). packed (checked a)) (c .before .before .before .c2 .given .1), c .before .wide-marks .ensures, c .wide-marks2 .ensures)
+    let right = c .before .wide-marks .ensures in
+    let stated = c .wide-marks2 .ensures in
+    omega (arith, ap (λ (a : Checked). packed (checked a)) (c .before .before .before .c2 .given .1), right, stated)
 
 pub pack-spec : {M : Type 1} → statement M
 pack-spec =

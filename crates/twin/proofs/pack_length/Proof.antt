@@ -14,7 +14,9 @@ enum-known-w c = search needs
 
 mul-result : tie.Need-mul-result
 mul-result c =
-    let fits = subst (λ (a : Written). packedLength (written a) < 2 ^ 64) (c .before .w .given .1) (c .before .before .before .pre) in omega (arith, fits)
+    let pre = c .before .before .before .pre in
+    let fits = subst (λ (a : Written). packedLength (written a) < 2 ^ 64) (c .before .w .given .1) pre in
+    omega (arith, fits)
 
 enum-told : tie.Need-enum-told
 enum-told c = search needs

@@ -18,7 +18,8 @@ abbrev μ-loop : tie.MeasureT-loop
 
 loop-holds : tie.Need-loop-holds Inv-loop μ-loop
 loop-holds c =
-    filling-starts (bytesOf (c .before .before .args .ms .now)) (c .before .before .args .out .now) (omega (arith, length-bytes (c .before .before .args .ms .now), c .before .before .pre))
+    let args = c .before .before .args in
+    filling-starts (bytesOf (args .ms .now)) (args .out .now) (omega (arith, length-bytes (args .ms .now), c .before .before .pre))
 
 mul-m : tie.Need-mul-m Inv-loop μ-loop
 mul-m c = search needs
@@ -36,7 +37,8 @@ slice-write-out : tie.Need-slice-write-out Inv-loop μ-loop
 slice-write-out c =
     let args = c .before .before .before .before .before .before .args in
     let loop = c .before .before .before .loop in
-    omega (arith, filling-length (bytesOf (args .ms .now)) (args .out .now) (loop .out) (2 * loop .i) (loop .inv), c .before .before .loop-test .taken, c .before .before .before .before .before .before .pre)
+    let kept = filling-length (bytesOf (args .ms .now)) (args .out .now) (loop .out) (2 * loop .i) (loop .inv) in
+    omega (arith, kept, c .before .before .loop-test .taken, c .before .before .before .before .before .before .pre)
 
 high-requires : tie.Need-high-requires Inv-loop μ-loop
 high-requires c κs = search needs
@@ -51,8 +53,8 @@ slice-write-out-2 : tie.Need-slice-write-out-2 Inv-loop μ-loop
 slice-write-out-2 c =
     let args = c .before .before .before .before .before .before .before .args in
     let loop = c .before .before .before .before .loop in
-    simp length-set
-    (omega (arith, filling-length (bytesOf (args .ms .now)) (args .out .now) (loop .out) (2 * loop .i) (loop .inv), c .before .before .before .loop-test .taken, c .before .before .before .before .before .before .before .pre))
+    let kept = filling-length (bytesOf (args .ms .now)) (args .out .now) (loop .out) (2 * loop .i) (loop .inv) in
+    simp length-set (omega (arith, kept, c .before .before .before .loop-test .taken, c .before .before .before .before .before .before .before .pre))
 
 add-i : tie.Need-add-i Inv-loop μ-loop
 add-i c = search needs
@@ -78,12 +80,16 @@ loop-again c =
 
 same-length : tie.Need-same-length Inv-loop μ-loop
 same-length c =
-    filling-length (bytesOf (c .before .before .before .before .args .ms .now)) (c .before .before .before .before .args .out .now) (c .before .loop .out) (2 * c .before .loop .i) (c .before .loop .inv)
+    let args = c .before .before .before .before .args in
+    let loop = c .before .loop in
+    filling-length (bytesOf (args .ms .now)) (args .out .now) (loop .out) (2 * loop .i) (loop .inv)
 
 returns : tie.Need-returns Inv-loop μ-loop
 returns c =
-    filling-ends (bytesOf (c .before .before .before .before .args .ms .now)) (c .before .before .before .before .args .out .now) (c .before .loop .out) (2 * c .before .loop .i) (c .before .loop .inv)
-    (omega (arith, length-bytes (c .before .before .before .before .args .ms .now), c .loop-test .left))
+    let args = c .before .before .before .before .args in
+    let loop = c .before .loop in
+    filling-ends (bytesOf (args .ms .now)) (args .out .now) (loop .out) (2 * loop .i) (loop .inv)
+    (omega (arith, length-bytes (args .ms .now), c .loop-test .left))
 
 pub put-marks-spec : {M : Type 1} → statement M
 put-marks-spec =

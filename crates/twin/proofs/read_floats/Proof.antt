@@ -1,5 +1,5 @@
 -- `twin::read_floats` meets its contract. The values are written one after the other. Assumes nothing.
-use Prim.Native.Nat.{_-_, _/_, _≤_}
+use Prim.Native.Nat.{_-_, _/_}
 use native.Mathlib.Omega.{arith}
 use mathlib.Core.Path.{ap, _∙_}
 use lib.Ieee.{binary64, ofBits}
@@ -17,7 +17,9 @@ abbrev μ-loop : tie.MeasureT-loop
 μ-loop b out₀ n i₀ out i = length b / 8 - i
 
 loop-holds : tie.Need-loop-holds Inv-loop μ-loop
-loop-holds c = tabling-starts (floatAt (c .before .before .args .b .now)) (length (c .before .before .args .b .now) / 8) (c .before .before .args .out .now) (c .before .before .pre)
+loop-holds c =
+    let args = c .before .before .args in
+    tabling-starts (floatAt (args .b .now)) (length (args .b .now) / 8) (args .out .now) (c .before .before .pre)
 
 mul-word : tie.Need-mul-word Inv-loop μ-loop
 mul-word c = search needs
@@ -30,11 +32,17 @@ float-of-requires c κs = search needs
 
 mul-out : tie.Need-mul-out Inv-loop μ-loop
 mul-out c =
-    omega (arith, tabling-room (floatAt (c .before .before .before .before .before .before .args .b .now)) (length (c .before .before .before .before .before .before .args .b .now) / 8) (c .before .before .before .before .before .before .args .out .now) (c .before .before .before .loop .out) (c .before .before .before .loop .i) (c .before .before .before .loop .inv) (c .before .before .loop-test .taken))
+    let args = c .before .before .before .before .before .before .args in
+    let loop = c .before .before .before .loop in
+    let b = args .b .now in
+    omega (arith, tabling-room (floatAt b) (length b / 8) (args .out .now) (loop .out) (loop .i) (loop .inv) (c .before .before .loop-test .taken))
 
 slice-write-out : tie.Need-slice-write-out Inv-loop μ-loop
 slice-write-out c =
-    tabling-room (floatAt (c .before .before .before .before .before .before .args .b .now)) (length (c .before .before .before .before .before .before .args .b .now) / 8) (c .before .before .before .before .before .before .args .out .now) (c .before .before .before .loop .out) (c .before .before .before .loop .i) (c .before .before .before .loop .inv) (c .before .before .loop-test .taken)
+    let args = c .before .before .before .before .before .before .args in
+    let loop = c .before .before .before .loop in
+    let b = args .b .now in
+    tabling-room (floatAt b) (length b / 8) (args .out .now) (loop .out) (loop .i) (loop .inv) (c .before .before .loop-test .taken)
 
 add-i : tie.Need-add-i Inv-loop μ-loop
 add-i c = search needs
@@ -47,17 +55,24 @@ unfolding floatAt
 loop-again c =
     let args = c .before .before .before .before .before .before .args in
     let loop = c .before .before .before .loop in
-    tabling-goes-on (floatAt (args .b .now)) (length (args .b .now) / 8) (args .out .now) (loop .out) (loop .i) (loop .inv) (c .float-of .result)
+    let b = args .b .now in
+    tabling-goes-on (floatAt b) (length b / 8) (args .out .now) (loop .out) (loop .i) (loop .inv) (c .float-of .result)
     (c .before .before .loop-test .taken) (c .float-of .ensures ∙ ap (ofBits binary64) (c .before .word .ensures))
 
 same-length : tie.Need-same-length Inv-loop μ-loop
 same-length c =
-    tabling-length (floatAt (c .before .before .before .before .args .b .now)) (length (c .before .before .before .before .args .b .now) / 8) (c .before .before .before .before .args .out .now) (c .before .loop .out) (c .before .loop .i) (c .before .loop .inv)
+    let args = c .before .before .before .before .args in
+    let loop = c .before .loop in
+    let b = args .b .now in
+    tabling-length (floatAt b) (length b / 8) (args .out .now) (loop .out) (loop .i) (loop .inv)
 
 returns : tie.Need-returns Inv-loop μ-loop
 unfolding floatsOf
 returns c =
-    tabling-ends (floatAt (c .before .before .before .before .args .b .now)) (length (c .before .before .before .before .args .b .now) / 8) (c .before .before .before .before .args .out .now) (c .before .loop .out) (c .before .loop .i) (c .before .loop .inv) (c .loop-test .left)
+    let args = c .before .before .before .before .args in
+    let loop = c .before .loop in
+    let b = args .b .now in
+    tabling-ends (floatAt b) (length b / 8) (args .out .now) (loop .out) (loop .i) (loop .inv) (c .loop-test .left)
 
 pub read-floats-spec : {M : Type 1} → statement M
 read-floats-spec =

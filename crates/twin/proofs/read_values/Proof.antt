@@ -1,5 +1,5 @@
 -- `twin::read_values` meets its contract, refusal by refusal. Assumes nothing.
-use mathlib.Core.Path.{_≡_, refl, _∙_}
+use mathlib.Core.Path.{refl}
 use borrow.Author.Tests.{lt-ltb, le-ltb, eq-eqb, ne-eqb}
 use Rattle.laws.specs.Refusals.{firstOf}
 use Rattle.twin.specs.Steps.{ahead, valuesAfter}
@@ -28,7 +28,10 @@ same-length c = search needs
 returns-4 : tie.Need-returns-4
 unfolding ahead valuesAfter firstOf
 returns-4 c =
-    simp (eq-eqb _ _ (c .before .before .before .before .before .before .if1 .left), le-ltb _ _ (c .before .before .before .before .before .if2 .left), le-ltb _ _ (c .before .before .before .before .if3 .left)) (refl, c .before .before .read-floats .ensures)
+    let if1 = c .before .before .before .before .before .before .if1 in
+    let if2 = c .before .before .before .before .before .if2 in
+    let if3 = c .before .before .before .before .if3 in
+    simp (eq-eqb _ _ (if1 .left), le-ltb _ _ (if2 .left), le-ltb _ _ (if3 .left)) (refl, c .before .before .read-floats .ensures)
 
 pub read-values-spec : {M : Type 1} → statement M
 read-values-spec =
