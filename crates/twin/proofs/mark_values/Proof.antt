@@ -79,7 +79,8 @@ returns-3 c =
     let values = args .values .now in
     let mark = c .before .before .before .before .before .before .before .before .before .before .mark in
     let zeros = length-replicate {A = ℕ} 4096 0 in
-    let answer = c .before .before .before .before .before .before .before .before .number .ensures ∙ mark .ensures .0 ∙ ap (answerOf (args .limits) set values) zeros in
+    let number = c .before .before .before .before .before .before .before .before .number in
+    let answer = number .ensures ∙ mark .ensures .0 ∙ ap (answerOf (args .limits) set values) zeros in
     let done = sym answer ∙ c .before .before .before .before .before .before .before .if1 .left in
     let marks = marks-stand (args .limits) set values done (replicate 4096 0) (mark .last .1 .1 .1 .0) (length values - 0) zeros
     (omega arith) (mark .ensures .1) in
