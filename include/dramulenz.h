@@ -20,11 +20,12 @@
  *     5 there are more than 4,096 values
  *
  * What a caller must pass. Each pointer and the length after it are one array of bytes: memory of that many bytes, all
- * of them initialised (those of `marks` and of the sheet's room too, though none is read there), that stays where it is
- * and is written by nobody else until the call returns; no length is 2^63 or more. The array that a call writes to
- * shares no byte with the other one; two arrays that are only read may. Where the length is 0 nothing is read or written
- * through the pointer, and it may be NULL or anything else; NULL with any other length is not allowed. There is no other
- * condition: every length, every content, every set and every double, NaNs and infinities too, has its answer.
+ * of them initialised (those of `marks` and of the sheet's room too, though none is read there). Until the call returns it
+ * stays where it is, nobody else writes it, and nobody else reads it where the call writes to it. The array that a call
+ * writes to shares no byte with the other one; two arrays that are only read may. No length is 2^63 or more. Where the
+ * length is 0 nothing is read or written through the pointer, and it may be NULL or anything else; NULL with any other
+ * length is not allowed. There is no other condition: every length, every content, every set and every double, NaNs and
+ * infinities too, has its answer.
  *
  * The functions keep nothing between calls and allocate nothing. A call takes some 82 KB of stack: measured, not proved.
  * Of the C library the archive needs memcpy and memset.
@@ -70,7 +71,7 @@ uint64_t dramulenz_check(const uint8_t *values, size_t values_len, double ucl, d
  * Writes the one mark sheet of a series, its limits and a set at the front of `sheet`.
  *
  * Gives the sheet's length in bits 8 and up, with 0 in bits 0 to 7. Bytes of `sheet` past the last one written are
- * untouched. No sheet is longer than 81,950 bytes.
+ * untouched. No sheet is longer than 16,390 bytes.
  *
  * Refuses in this order, with all of `sheet` as it came and with zero in bits 8 and up: 2, 5, 4, 3 for the limits, 3 for
  * the values, and 6 where sheet_len is less than the sheet's length.

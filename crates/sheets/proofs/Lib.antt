@@ -1,4 +1,5 @@
--- The laws of mark sheets: what they say, what is accepted, and what the loops of the checker and of the writer rest on.
+-- The laws of mark sheets: what they say, what is accepted, how far their places go, and what the loops of the checker and of the writer
+-- rest on.
 mod Points
 pub mod Sheets
 mod Reading

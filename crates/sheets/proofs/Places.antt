@@ -1,5 +1,5 @@
--- How far the places and the numbers of a verdict go, and how long a sheet is: a number takes at most ten bytes, and a sheet has at most
--- three of them at its head and two for each of 4,096 points. Assumes nothing.
+-- How far the places and the numbers of a verdict go: a number takes at most ten bytes, and bytes say at most three numbers at the head and
+-- two for each of 4,096 points before a fault. And how long a sheet is: at most 16,390 bytes. Assumes nothing.
 use Prim.Native.Nat.{ℕ, zero, suc, _+_, _-_, _*_, _%_, _^_, _≤_, _<_}
 use native.Mathlib.Nat.{pow-suc}
 use native.Mathlib.Omega.{arith}
@@ -29,6 +29,7 @@ use Rattle.sheets.specs.Said.{Said, fault, sheet, onward, number, isPart
 use Rattle.sheets.specs.Answers.{Verdict, refusal, firstWrong, judged, checkOf, seriesSheet, writeOf}
 use Rattle.sheets.proofs.Points.{marked-le, entriesOf-none, entriesOf-zero, entriesOf-mark}
 use Rattle.sheets.proofs.Sheets.{isPart-means}
+use Rattle.sheets.proofs.Reading.{not-number}
 
 -- ---- a number takes at most ten bytes
 
@@ -74,29 +75,31 @@ unfolding front
 front-bytes [] k v n e h = not-some e
 front-bytes (b ∷ bs) k v n e h = front-by b bs k v n (ltb b 128) refl e h (λ j w m. front-bytes bs j w m)
 
-not-number : {A : Type 0} {at v next : ℕ} → Fault at ≡ Number v next → A
-not-number {A} {at} {v} {next} e = absurd (let z : _≡_ {A = ℕ} 0 1 = cc in omega arith)
-
-number-ends : (s : List ℕ) (at v next : ℕ) → numberAt s at ≡ Number v next → next ≤ at + 10
+-- a number that is read has at most 64 bits, and takes no more bytes than its size asks for
+number-bytes : (s : List ℕ) (at v next k : ℕ) → numberAt s at ≡ Number v next → (v < 2 ^ 64) × (v < 128 ^ suc k → next ≤ at + suc k)
 unfolding numberAt
-number-ends s at v next = by (front (drop at s)) refl
+number-bytes s at v next k = by (front (drop at s)) refl
   where
-    by : (r : Front) → front (drop at s) ≡ r → readAs at r ≡ Number v next → next ≤ at + 10
+    by : (r : Front) → front (drop at s) ≡ r → readAs at r ≡ Number v next → (v < 2 ^ 64) × (v < 128 ^ suc k → next ≤ at + suc k)
     by none f e = not-number e
     by (some w n) f e = small (ltb w (2 ^ 64)) refl
       where
-        small : (t : Bool) → ltb w (2 ^ 64) ≡ t → next ≤ at + 10
+        small : (t : Bool) → ltb w (2 ^ 64) ≡ t → (v < 2 ^ 64) × (v < 128 ^ suc k → next ≤ at + suc k)
         small false t = not-number (sym (read-over at w n (ltb-false w (2 ^ 64) t)) ∙ e)
         small true t =
             let low = ltb-true w (2 ^ 64) t in
             let g : Number w (at + n) ≡ Number v next = sym (read-some at w n low) ∙ e in
+            let value : w ≡ v = cc in
             let place : at + n ≡ next = cc in
-            let few : n ≤ 10 = front-bytes (drop at s) 9 w n f (omega arith) in
-            omega arith
+            (omega arith, λ h. let few : n ≤ suc k = front-bytes (drop at s) k w n f (omega arith) in omega arith)
 
-ten-bytes : (x : ℕ) → x < 2 ^ 64 → length (groups x) ≤ 10
-ten-bytes x h =
-    let l = number-ends (groups x) 0 x (0 + length (groups x)) (read-there (groups x) 0 x [] h (sym (append-nil (groups x)))) in
+number-ends : (s : List ℕ) (at v next : ℕ) → numberAt s at ≡ Number v next → next ≤ at + 10
+number-ends s at v next e = let b = number-bytes s at v next 9 e in b .1 (omega (arith, b .0))
+
+two-bytes : (x : ℕ) → x < 16384 → length (groups x) ≤ 2
+two-bytes x h =
+    let there = read-there (groups x) 0 x [] (omega arith) (sym (append-nil (groups x))) in
+    let l = number-bytes (groups x) 0 x (0 + length (groups x)) 1 there .1 h in
     omega arith
 
 -- ---- what bytes say: a fault lies at q or before, and the marks are at most `top`
@@ -237,14 +240,14 @@ module _ (limits : Limits) (set : ℕ) (values : List Float) where
           (said-within 4096 511 s 0)
       by false e = alone low
 
--- ---- a sheet's length
+-- ---- a sheet's length: here each number takes at most two bytes
 
-entries-long : (skip : ℕ) {ms : List ℕ} → Small 511 ms → skip + length ms < 2 ^ 64 → length (entriesOf skip ms) ≤ 20 * length ms
+entries-long : (skip : ℕ) {ms : List ℕ} → Small 511 ms → skip + length ms < 16384 → length (entriesOf skip ms) ≤ 4 * length ms
 entries-long skip nil h = rw (entriesOf-none skip) (omega arith)
 entries-long skip (cons {m} {ms} x a) h = by (eqb m 0) refl (entries-long (suc skip) a (omega arith)) (entries-long 0 a (omega arith))
   where
-    by : (t : Bool) → eqb m 0 ≡ t → length (entriesOf (suc skip) ms) ≤ 20 * length ms → length (entriesOf 0 ms) ≤ 20 * length ms
-        → length (entriesOf skip (m ∷ ms)) ≤ 20 * suc (length ms)
+    by : (t : Bool) → eqb m 0 ≡ t → length (entriesOf (suc skip) ms) ≤ 4 * length ms → length (entriesOf 0 ms) ≤ 4 * length ms
+        → length (entriesOf skip (m ∷ ms)) ≤ 4 * suc (length ms)
     by true t skipped put = let z : m ≡ 0 = eqb-true m 0 t in rw (z, entriesOf-zero skip ms) (omega arith)
     by false t skipped put =
         rw (entriesOf-mark skip m ms (eqb-false m 0 t))
@@ -252,11 +255,11 @@ entries-long skip (cons {m} {ms} x a) h = by (eqb m 0) refl (entries-long (suc s
           arith,
           length-append (groups skip) (groups m ++ entriesOf 0 ms),
           length-append (groups m) (entriesOf 0 ms),
-          ten-bytes skip (omega arith),
-          ten-bytes m (omega arith),
+          two-bytes skip (omega arith),
+          two-bytes m (omega arith),
         ))
 
-sheet-long : (set : ℕ) (ms : List ℕ) → set ≤ 511 → length ms ≤ 4096 → Small 511 ms → length (sheetOf set ms) ≤ 81950
+sheet-long : (set : ℕ) (ms : List ℕ) → set ≤ 511 → length ms ≤ 4096 → Small 511 ms → length (sheetOf set ms) ≤ 16390
 unfolding sheetOf
 sheet-long set ms low few small =
     let fewer = marked-le ms in
@@ -266,16 +269,16 @@ sheet-long set ms low few small =
       length-append (groups (length ms)) (groups set ++ tail),
       length-append (groups set) tail,
       length-append (groups (marked ms)) (entriesOf 0 ms),
-      ten-bytes (length ms) (omega arith),
-      ten-bytes set (omega arith),
-      ten-bytes (marked ms) (omega arith),
+      two-bytes (length ms) (omega arith),
+      two-bytes set (omega arith),
+      two-bytes (marked ms) (omega arith),
       entries-long 0 small (omega arith),
     )
 
 -- what the writer answers: a number alone, or the length of a sheet
 pub data Short : ℕ × ℕ → Type 0 where
   number-only : {n : ℕ} → n ≤ 10 → Short (n, 0)
-  bytes : {n : ℕ} → n ≤ 81950 → Short (0, n)
+  bytes : {n : ℕ} → n ≤ 16390 → Short (0, n)
 
 pub write-short : (limits : Limits) (set : ℕ) (values : List Float) (room : ℕ) → Short (writeOf limits set values room)
 unfolding writeOf firstOf seriesSheet
@@ -284,7 +287,7 @@ write-short limits set values room = by (eqb (refusal limits set values) 0) refl
     whole : List ℕ
     whole = sheetOf set (marksOf limits set values)
 
-    held : length whole ≤ 81950 → (t : Bool) → Short (cond t (6, 0) (0, length whole))
+    held : length whole ≤ 16390 → (t : Bool) → Short (cond t (6, 0) (0, length whole))
     held h true = number-only {n = 6} (omega arith)
     held h false = bytes h
 

@@ -137,7 +137,7 @@ fn mark_values(values: &[f64], limits: Limits, set: RuleSet, marks: &mut [u8]) -
     0
 }
 
-// A verdict in one word. It has room there: no place and no position of a verdict is as large as its bits could hold.
+// A verdict in one word, which has room for every place and every position that the checker gives (proofs/Packing.antt).
 fn pack(c: Checked) -> u64
     requires { ⌜ packed (checked c) < 2 ^ 64 ⌝ }
     ensures { λ r. ⌜ r ≡ packed (checked c) ⌝ }
@@ -256,7 +256,7 @@ pub extern "C" fn dramulenz_check(
 /// Writes the mark sheet of a series, its limits and a rule set at the front of `sheet`.
 ///
 /// `values` has eight bytes a value, low byte first. Gives the sheet's length in bits 8 and up, and 0 in bits 0 to 7; bytes
-/// of `sheet` past the last one written are untouched. No sheet is longer than 81,950 bytes.
+/// of `sheet` past the last one written are untouched. No sheet is longer than 16,390 bytes.
 ///
 /// # Refusals
 ///
