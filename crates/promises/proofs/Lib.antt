@@ -6,3 +6,4 @@ mod Sets
 mod Rules
 mod Charts
 mod Sheets
+mod Twin

@@ -27,7 +27,7 @@ module _ (most at : ℕ) (r : Reading) where
   pub most-over : (v next : ℕ) → r ≡ Number v next → most < v → Fault at ≡ atMost most at r
   most-over v next e h = sym (ap (atMost most at) e ∙ simp (lt-leb v most h))
 
-not-number : {A : Type 0} {at v next : ℕ} → Fault at ≡ Number v next → A
+pub not-number : {A : Type 0} {at v next : ℕ} → Fault at ≡ Number v next → A
 not-number {A} {at} {v} {next} e = absurd (let z : _≡_ {A = ℕ} 0 1 = cc in omega arith)
 
 not-fault : {A : Type 0} {at v next : ℕ} → Number v next ≡ Fault at → A

@@ -133,7 +133,7 @@ module _ (ok : ℕ → Bool) (s : List ℕ) (at : ℕ) (rest : ℕ → ℕ → S
   took : number ok s at rest ≡ sheet t ms → Took ok s at rest t ms
   took f = took-by (numberAt s at) refl f
 
-isPart-means : (set m : ℕ) → isPart set m ≡ true → (m ≡ 0 → ⊥) × (bitAnd m set ≡ m)
+pub isPart-means : (set m : ℕ) → isPart set m ≡ true → (m ≡ 0 → ⊥) × (bitAnd m set ≡ m)
 isPart-means set m e = by (eqb m 0) refl
   where
     by : (t : Bool) → eqb m 0 ≡ t → (m ≡ 0 → ⊥) × (bitAnd m set ≡ m)

@@ -1,0 +1,5 @@
+-- The laws of the C boundary.
+mod FromBytes
+mod Refusing
+pub mod Packing
+mod Examples

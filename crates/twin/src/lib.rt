@@ -1,0 +1,313 @@
+// The library's functions for C: values are bytes, eight to an f64, marks are bytes, two to a point, low byte first. Each answer has
+// document 01's number in bits 0 to 7.
+use root::Rooted;
+use rules::Limits;
+use sets::RuleSet;
+use sheets::Checked;
+use sheets::Written;
+ghost use mathlib.Core.Path.{_≡_};
+ghost use Prim.Native.Nat.{_+_, _*_, _/_, _%_, _^_, _≤_, _<_};
+ghost use lib.Ieee.{binary64, ofBits};
+ghost use lib.ListN.{length, take, drop};
+ghost use Rattle.laws.specs.Front.{atFront};
+ghost use Rattle.rules.specs.Marking.{answerOf};
+ghost use Rattle.sheets.specs.Answers.{checked, written};
+ghost use Rattle.twin.specs.Bytes.{wordOf, floatsOf, bytesOf};
+ghost use Rattle.twin.specs.Answers.{limitsOf, markNumber, bytesAfter, markRoom, packed, checkNumber};
+ghost use Rattle.twin.specs.Answers.{packedLength, writeNumber, writeRoom, rootNumber};
+ghost use Rattle.twin.specs.Steps.{pairAt, fourAt, ahead, valuesAfter};
+
+fn wide(b: u8) -> u64
+    ensures { λ r. ⌜ (r ≡ b) × (r < 256) ⌝ }
+{
+    b as u64
+}
+
+fn wide_marks(m: u16) -> u64
+    ensures { λ r. ⌜ r ≡ m ⌝ }
+{
+    m as u64
+}
+
+fn pair(b: &[u8], at: usize) -> u64
+    requires { ⌜ at + 2 ≤ length (now b) ⌝ }
+    ensures { λ r. ⌜ (r ≡ pairAt (now (b .entry)) at) × (r < 65536) ⌝ }
+{
+    wide(b[at]) + 256 * wide(b[at + 1])
+}
+
+fn four(b: &[u8], at: usize) -> u64
+    requires { ⌜ at + 4 ≤ length (now b) ⌝ }
+    ensures { λ r. ⌜ (r ≡ fourAt (now (b .entry)) at) × (r < 4294967296) ⌝ }
+{
+    pair(b, at) + 65536 * pair(b, at + 2)
+}
+
+// Eight bytes as a number, low byte first. The tree of sums is balanced, so that the compiler makes it one load.
+fn word(b: &[u8], at: usize) -> u64
+    requires { ⌜ at + 8 ≤ length (now b) ⌝ }
+    ensures { λ r. ⌜ r ≡ wordOf (take 8 (drop at (now (b .entry)))) ⌝ }
+{
+    four(b, at) + 4294967296 * four(b, at + 4)
+}
+
+// What a pattern of 64 bits means. `from_bits` takes no NaN's pattern, so each of these is told apart first.
+fn float_of(w: u64) -> f64
+    ensures { λ r. ⌜ r ≡ ofBits binary64 w ⌝ }
+{
+    if w & 0x7fff_ffff_ffff_ffff > 0x7ff0_0000_0000_0000 {
+        return 0.0 / 0.0;
+    }
+    f64::from_bits(w)
+}
+
+// The values that the bytes mean, at the front of `out`.
+fn read_floats(b: &[u8], out: &mut [f64])
+    requires { ⌜ length (now b) / 8 ≤ length (now out) ⌝ }
+    ensures { λ _. ⌜ now (out .exit) ≡ atFront (floatsOf (now (b .entry))) (now (out .entry)) ⌝ }
+{
+    let n = b.len() / 8;
+    let mut i: usize = 0;
+    while i < n {
+        out[i] = float_of(word(b, 8 * i));
+        i += 1;
+    }
+}
+
+// How each call begins: the values at the front of `vs` and 0, or the number of what is refused before one of them is read.
+fn read_values(b: &[u8], set: u32, vs: &mut [f64]) -> u64
+    requires { ⌜ length (now vs) ≡ 4096 ⌝ }
+    ensures { λ r. ⌜ r ≡ ahead (now (b .entry)) set ⌝ }
+    ensures { λ r. ⌜ now (vs .exit) ≡ valuesAfter (now (b .entry)) set (now (vs .entry)) ⌝ }
+{
+    if b.len() % 8 != 0 {
+        return 2;
+    }
+    if 4096 < b.len() / 8 {
+        return 5;
+    }
+    if 511 < set {
+        return 4;
+    }
+    read_floats(b, vs);
+    0
+}
+
+fn low(m: u16) -> u8
+    ensures { λ r. ⌜ r ≡ m % 256 ⌝ }
+{
+    (m % 256) as u8
+}
+
+fn high(m: u16) -> u8
+    ensures { λ r. ⌜ r ≡ m / 256 ⌝ }
+{
+    (m / 256) as u8
+}
+
+// The bytes of the marks, at the front of `out`.
+fn put_marks(ms: &[u16], out: &mut [u8])
+    requires { ⌜ 2 * length (now ms) ≤ length (now out) ⌝ }
+    ensures { λ _. ⌜ now (out .exit) ≡ atFront (bytesOf (now (ms .entry))) (now (out .entry)) ⌝ }
+{
+    let mut i: usize = 0;
+    while i < ms.len() {
+        let m = ms[i];
+        out[2 * i] = low(m);
+        out[2 * i + 1] = high(m);
+        i += 1;
+    }
+}
+
+// Marks a series into bytes. Marking itself has room for every point, so that 6 is left to say here.
+fn mark_values(values: &[f64], limits: Limits, set: RuleSet, marks: &mut [u8]) -> u64
+    ensures { λ r. ⌜ r ≡ answerOf limits (set .mask) (now (values .entry)) (length (now (marks .entry)) / 2) ⌝ }
+    ensures { λ r. ⌜ now (marks .exit) ≡ bytesAfter limits (set .mask) (now (values .entry)) (now (marks .entry)) ⌝ }
+{
+    let n = values.len();
+    let mut ms = [0u16; 4096];
+    let marked = rules::mark(values, limits, set, &mut ms).number();
+    if marked != 0 {
+        return wide(marked);
+    }
+    if marks.len() / 2 < n {
+        return 6;
+    }
+    put_marks(&ms[0..n], marks);
+    0
+}
+
+// A verdict in one word, which has room for every place and every position that the checker gives (proofs/Packing.antt).
+fn pack(c: Checked) -> u64
+    requires { ⌜ packed (checked c) < 2 ^ 64 ⌝ }
+    ensures { λ r. ⌜ r ≡ packed (checked c) ⌝ }
+{
+    match c {
+        Checked::Accepted => 0,
+        Checked::TooMany => 5,
+        Checked::SetTooLarge => 4,
+        Checked::NotFinite => 3,
+        Checked::Form { at } => 9 + 256 * (at as u64),
+        Checked::Differs => 10,
+        Checked::Wrong { at, right, stated } => 11
+            + 256 * (at as u64)
+            + 16777216 * wide_marks(right)
+            + 1099511627776 * wide_marks(stated),
+    }
+}
+
+// The same of a writer's answer, with the sheet's length.
+fn pack_length(w: Written) -> u64
+    requires { ⌜ packedLength (written w) < 2 ^ 64 ⌝ }
+    ensures { λ r. ⌜ r ≡ packedLength (written w) ⌝ }
+{
+    match w {
+        Written::Sheet(len) => 256 * (len as u64),
+        Written::TooMany => 5,
+        Written::SetTooLarge => 4,
+        Written::NotFinite => 3,
+        Written::TooShort => 6,
+    }
+}
+
+/// Marks every point of a series: two bytes a point at the front of `marks`, low byte first, with test b of the set in
+/// bit b exactly where the window of the test that ends at the point fits and shows the test's pattern.
+///
+/// `values` has eight bytes a value, low byte first. Gives 0; bytes of `marks` past the last one written are untouched.
+///
+/// # Refusals
+///
+/// In this order, with `marks` as it came: 2 where the length of `values` is not a multiple of eight, 5 for more than 4,096
+/// values, 4 for a set over 511, 3 for limits that are not all finite, 3 for values that are not all finite, 6 where `marks`
+/// is shorter than two bytes a point.
+///
+/// # Example
+///
+/// The value 28.5 (`00 00 00 00 00 80 3c 40`) under the limits 28.0, 25.0, 22.0 and the set 1 gives 0 and leaves `01 00` at
+/// the front of `marks`: it lies beyond a limit. With its last byte missing it is 2.
+#[no_mangle]
+pub extern "C" fn dramulenz_mark(
+    values: &[u8],
+    ucl: f64,
+    cl: f64,
+    lcl: f64,
+    set: u32,
+    marks: &mut [u8],
+) -> u64
+    ensures answer { λ r. ⌜ r ≡ markNumber (limitsOf ucl cl lcl) set (now (values .entry)) (now (marks .entry)) ⌝ }
+    ensures marks { λ r. ⌜ now (marks .exit) ≡ markRoom (limitsOf ucl cl lcl) set (now (values .entry)) (now (marks .entry)) ⌝ }
+{
+    let n = values.len() / 8;
+    let mut vs = [0.0f64; 4096];
+    let refused = read_values(values, set, &mut vs);
+    if refused != 0 {
+        return refused;
+    }
+    mark_values(
+        &vs[0..n],
+        Limits { ucl, cl, lcl },
+        RuleSet { mask: set as u16 },
+        marks,
+    )
+}
+
+/// Checks the bytes `sheet`, whoever made them, against a series, its limits and a rule set.
+///
+/// `values` has eight bytes a value, low byte first. Gives 0 exactly if `sheet` is the one mark sheet of these, which is
+/// the one that [`dramulenz_write`] writes.
+///
+/// # Refusals
+///
+/// In bits 0 to 7 the number, in this order: 2 where the length of `values` is not a multiple of eight, 5 for more than
+/// 4,096 values, 4 for a set over 511, 3 for limits that are not all finite, 3 for values that are not all finite, 9 for bytes
+/// that are no sheet, 10 for another number of points or another set, 11 for wrong marks.
+///
+/// At 9 the place of the fault is in bits 8 and up. At 11 the first wrong position is in bits 8 to 23, the right marks there
+/// are in bits 24 to 39, and the stated ones in bits 40 to 55. All other bits are zero.
+///
+/// # Example
+///
+/// With no values and the set 1, `00 01 00` gives 0, `00 01` gives `0x209` (a fault at place 2), and `00 00 00` gives 10.
+#[no_mangle]
+pub extern "C" fn dramulenz_check(
+    values: &[u8],
+    ucl: f64,
+    cl: f64,
+    lcl: f64,
+    set: u32,
+    sheet: &[u8],
+) -> u64
+    ensures { λ r. ⌜ r ≡ checkNumber (limitsOf ucl cl lcl) set (now (values .entry)) (now (sheet .entry)) ⌝ }
+{
+    let n = values.len() / 8;
+    let mut vs = [0.0f64; 4096];
+    let refused = read_values(values, set, &mut vs);
+    if refused != 0 {
+        return refused;
+    }
+    pack(sheets::check(
+        &vs[0..n],
+        Limits { ucl, cl, lcl },
+        RuleSet { mask: set as u16 },
+        sheet,
+    ))
+}
+
+/// Writes the mark sheet of a series, its limits and a rule set at the front of `sheet`.
+///
+/// `values` has eight bytes a value, low byte first. Gives the sheet's length in bits 8 and up, and 0 in bits 0 to 7; bytes
+/// of `sheet` past the last one written are untouched. No sheet is longer than 16,390 bytes.
+///
+/// # Refusals
+///
+/// In this order, with `sheet` as it came: 2 where the length of `values` is not a multiple of eight, 5 for more than 4,096
+/// values, 4 for a set over 511, 3 for limits that are not all finite, 3 for values that are not all finite, 6 where `sheet`
+/// is shorter than the mark sheet.
+///
+/// # Example
+///
+/// With no values and the set 1, `00 01 00` is written and `0x300` is given.
+#[no_mangle]
+pub extern "C" fn dramulenz_write(
+    values: &[u8],
+    ucl: f64,
+    cl: f64,
+    lcl: f64,
+    set: u32,
+    sheet: &mut [u8],
+) -> u64
+    ensures answer { λ r. ⌜ r ≡ writeNumber (limitsOf ucl cl lcl) set (now (values .entry)) (now (sheet .entry)) ⌝ }
+    ensures room { λ r. ⌜ now (sheet .exit) ≡ writeRoom (limitsOf ucl cl lcl) set (now (values .entry)) (now (sheet .entry)) ⌝ }
+{
+    let n = values.len() / 8;
+    let mut vs = [0.0f64; 4096];
+    let refused = read_values(values, set, &mut vs);
+    if refused != 0 {
+        return refused;
+    }
+    pack_length(sheets::write(
+        &vs[0..n],
+        Limits { ucl, cl, lcl },
+        RuleSet { mask: set as u16 },
+        sheet,
+    ))
+}
+
+/// The square root of `x`, rounded to the nearest f64; that of +0.0 and of -0.0 is the same zero.
+///
+/// # Refusal
+///
+/// +0.0 where `x` is a NaN, an infinity or below zero.
+///
+/// # Example
+///
+/// `dramulenz_root(4.0)` is 2.0, `dramulenz_root(-4.0)` is +0.0.
+#[no_mangle]
+pub extern "C" fn dramulenz_root(x: f64) -> f64
+    ensures { λ r. ⌜ r ≡ rootNumber x ⌝ }
+{
+    match root::root(x) {
+        Rooted::Root(r) => r,
+        Rooted::Refused => 0.0,
+    }
+}

@@ -1,0 +1,93 @@
+/*
+ * Dramulenz for C and C++: marking a series by the nine run tests, writing and checking mark sheets, and the nearest
+ * square root. Link with libtwin.a, which `rt staticlib twin` proves and writes to target/staticlib (x86-64 Linux).
+ *
+ * Bytes. `values` has eight bytes a value, the bits of a double with the low byte first; any eight bytes are a value,
+ * and each NaN pattern is a NaN. Marks are two bytes a point, low byte first, with test b in bit b:
+ *
+ *     0 beyond a limit             3 fourteen alternating             6 fifteen within one sigma
+ *     1 nine on one side           4 two of three beyond two sigma    7 eight beyond one sigma
+ *     2 six in a trend             5 four of five beyond one sigma    8 eight on one side
+ *
+ * `set` has the tests that are asked for in the same bits: 1 is shewhart, 255 nelson, 305 western_electric.
+ *
+ * Answers. Bits 0 to 7 of each answer are its number:
+ *
+ *     0 done                                       6 the lent room is shorter than needed
+ *     2 values_len is not a multiple of eight      9 the bytes are no sheet
+ *     3 a limit or a value is not finite          10 the sheet names another number of points or another set
+ *     4 the set is over 511                       11 the sheet states wrong marks
+ *     5 there are more than 4,096 values
+ *
+ * What a caller must pass. Each pointer and the length after it are one array of bytes: memory of that many bytes, all
+ * of them initialised (those of `marks` and of the sheet's room too, though none is read there). Until the call returns it
+ * stays where it is, nobody else writes it, and nobody else reads it where the call writes to it. The array that a call
+ * writes to shares no byte with the other one; two arrays that are only read may. No length is 2^63 or more. Where the
+ * length is 0 nothing is read or written through the pointer, and it may be NULL or anything else; NULL with any other
+ * length is not allowed. There is no other condition: every length, every content, every set and every double, NaNs and
+ * infinities too, has its answer.
+ *
+ * The functions keep nothing between calls and allocate nothing. A call takes some 82 KB of stack: measured, not proved.
+ * Of the C library the archive needs memcpy and memset.
+ */
+#ifndef DRAMULENZ_H
+#define DRAMULENZ_H
+
+#include <stddef.h>
+#include <stdint.h>
+
+#ifdef __cplusplus
+extern "C" {
+#endif
+
+/*
+ * Marks every point: two bytes a point at the front of `marks`, with test b of the set in bit b exactly where the window
+ * of the test that ends at the point fits and shows the test's pattern.
+ *
+ * Gives 0. Bytes of `marks` past the last one written are untouched, an odd one at the end too.
+ *
+ * Refuses in this order, with all of `marks` as it came: 2, 5, 4, 3 for the limits, 3 for the values, and 6 where
+ * marks_len is less than two bytes a point.
+ */
+uint64_t dramulenz_mark(const uint8_t *values, size_t values_len, double ucl, double cl, double lcl, uint32_t set,
+                        uint8_t *marks, size_t marks_len);
+
+/*
+ * Checks the bytes of a mark sheet, whoever made them, against a series, its limits and a set. Writes nothing.
+ *
+ * Gives 0 exactly if they are the one sheet that dramulenz_write writes for these.
+ *
+ * Refuses in this order: 2, 5, 4, 3 for the limits, 3 for the values, 9, 10, 11. All bits that are not named are zero.
+ *
+ *     at 9    bits 8 and up    the place of the first byte of the number at fault, or of the first byte left over
+ *     at 11   bits 8 to 23     the first position with wrong marks
+ *             bits 24 to 39    the right marks there
+ *             bits 40 to 55    the marks that the sheet states there
+ */
+uint64_t dramulenz_check(const uint8_t *values, size_t values_len, double ucl, double cl, double lcl, uint32_t set,
+                         const uint8_t *sheet, size_t sheet_len);
+
+/*
+ * Writes the one mark sheet of a series, its limits and a set at the front of `sheet`.
+ *
+ * Gives the sheet's length in bits 8 and up, with 0 in bits 0 to 7. Bytes of `sheet` past the last one written are
+ * untouched. No sheet is longer than 16,390 bytes.
+ *
+ * Refuses in this order, with all of `sheet` as it came and with zero in bits 8 and up: 2, 5, 4, 3 for the limits, 3 for
+ * the values, and 6 where sheet_len is less than the sheet's length.
+ */
+uint64_t dramulenz_write(const uint8_t *values, size_t values_len, double ucl, double cl, double lcl, uint32_t set,
+                         uint8_t *sheet, size_t sheet_len);
+
+/*
+ * The square root of x, rounded to the nearest double; the root of +0.0 and of -0.0 is the same zero.
+ *
+ * Refuses a NaN, an infinity and x below zero (number 3), and gives +0.0 then.
+ */
+double dramulenz_root(double x);
+
+#ifdef __cplusplus
+}
+#endif
+
+#endif
