@@ -54,6 +54,11 @@ pub fn positive() -> Vec<f64> {
     any.filter(|x| x.is_finite()).take(POINTS).collect()
 }
 
+/// Marks as bytes, low byte first.
+pub fn bytes_of_marks(marks: &[u16]) -> Vec<u8> {
+    marks.iter().flat_map(|m| m.to_le_bytes()).collect()
+}
+
 /// The values as bytes, low byte first.
 pub fn bytes_of(values: &[f64]) -> Vec<u8> {
     values.iter().flat_map(|v| v.to_le_bytes()).collect()

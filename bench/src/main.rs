@@ -16,31 +16,58 @@ const EIGHT_ONE_SIDE: u16 = 1 << 8;
 fn main() {
     let word = std::env::args().nth(1);
     let turns = word.and_then(|w| w.parse().ok()).expect("a number of turns");
-    marking(turns);
+    marking_values(turns);
+    marking_bytes(turns);
     sheets(turns);
     roots(turns);
     evaluating(turns);
 }
 
-fn marking(turns: usize) {
-    println!();
-    println!(
-        "{:<36}{:>8}{:>16}{:>8}{:>18}{:>8}",
-        "marking, ns a point", "ours", "Rust, points", "ratio", "Rust, bytes", "ratio"
-    );
-    for (name, set, values) in [
+/// What is marked: the lines of both tables of marking.
+fn flows() -> [(&'static str, u16, Vec<f64>); 6] {
+    [
         ("nelson, in control", NELSON, data::in_control()),
         ("nelson, two-peaked", NELSON, data::two_peaked()),
         ("nelson, constant", NELSON, data::constant(25.0)),
         ("western_electric, in control", WESTERN_ELECTRIC, data::in_control()),
         ("shewhart, in control", SHEWHART, data::in_control()),
         ("one other test, in control", EIGHT_ONE_SIDE, data::in_control()),
-    ] {
+    ]
+}
+
+fn marking_values(turns: usize) {
+    println!();
+    println!("{:<36}{:>8}{:>16}{:>8}", "marking values, ns a point", "ours", "Rust, points", "ratio");
+    for (name, set, values) in flows() {
+        let (points, rules) = (rust::points_of(values.iter().copied()), rust::set_of(set));
+        let mut marks = vec![0; POINTS];
+        assert_eq!(ours::mark_values(&values, set, &mut marks), 0);
+        assert_eq!(marks, rust::marks_of(&rust::mark(&points, rules), POINTS), "marks differ: {name}");
+
+        let [mine, theirs] = medians(
+            turns,
+            [&mut || keep(ours::mark_values(opaque(&values), set, &mut marks)), &mut || {
+                keep(rust::mark(opaque(&points), rules))
+            }],
+        )
+        .map(|t| t / POINTS as f64);
+        println!("{name:<36}{mine:>8.2}{theirs:>16.2}{:>8.2}", mine / theirs);
+    }
+}
+
+fn marking_bytes(turns: usize) {
+    println!();
+    println!(
+        "{:<36}{:>8}{:>16}{:>8}{:>18}{:>8}",
+        "marking bytes, ns a point", "ours", "Rust, points", "ratio", "Rust, bytes", "ratio"
+    );
+    for (name, set, values) in flows() {
         let (bytes, points) = (data::bytes_of(&values), rust::points_of(values.into_iter()));
         let rules = rust::set_of(set);
         let mut marks = vec![0; 2 * POINTS];
         assert_eq!(ours::mark(&bytes, set, &mut marks), 0);
-        assert_eq!(marks, rust::marks_of(&rust::mark(&points, rules), POINTS), "marks differ: {name}");
+        let theirs = rust::marks_of(&rust::mark(&points, rules), POINTS);
+        assert_eq!(marks, data::bytes_of_marks(&theirs), "marks differ: {name}");
 
         let [mine, ready, from_bytes] = medians(
             turns,

@@ -34,6 +34,16 @@ extern "C" {
         room: usize,
     ) -> u64;
     fn dramulenz_root(x: f64) -> f64;
+    fn bench_mark(
+        ucl: f64,
+        cl: f64,
+        lcl: f64,
+        set: u16,
+        values: *const f64,
+        values_len: usize,
+        marks: *mut u16,
+        marks_len: usize,
+    ) -> u64;
     fn bench_evaluate(
         kind: u64,
         size: usize,
@@ -54,6 +64,11 @@ extern "C" {
 
 // SAFETY, of all of these: each pointer comes with the length of the slice that it is taken from, the library
 // keeps within it, and what it writes to is lent for writing and so apart from the others.
+
+pub fn mark_values(values: &[f64], set: u16, marks: &mut [u16]) -> u64 {
+    let (to, room) = (marks.as_mut_ptr(), marks.len());
+    unsafe { bench_mark(LIMITS.ucl, LIMITS.cl, LIMITS.lcl, set, values.as_ptr(), values.len(), to, room) }
+}
 
 pub fn mark(values: &[u8], set: u16, marks: &mut [u8]) -> u64 {
     let (to, room) = (marks.as_mut_ptr(), marks.len());

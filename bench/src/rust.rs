@@ -25,14 +25,14 @@ pub fn mark(points: &[ChartPoint], set: RuleSet) -> Vec<(usize, ViolationType)> 
     set.check(points, &LIMITS)
 }
 
-/// The same as marks of each point, two bytes each.
-pub fn marks_of(list: &[(usize, ViolationType)], points: usize) -> Vec<u8> {
+/// The same as marks of each point.
+pub fn marks_of(list: &[(usize, ViolationType)], points: usize) -> Vec<u16> {
     let mut marks = vec![0u16; points];
     for &(index, test) in list {
         let bit = ViolationType::ALL.iter().position(|&t| t == test);
         marks[index] |= 1 << bit.expect("ViolationType::ALL lists every test");
     }
-    marks.iter().flat_map(|m| m.to_le_bytes()).collect()
+    marks
 }
 
 /// A chart that holds its samples. Naming its set makes the Rust evaluate it afresh, once.
