@@ -13,7 +13,7 @@ use Rattle.laws.proofs.Bits.{has-and, has-or, has-shr}
 use Rattle.rules.specs.Codes.{column, first, byTurns, some, readOff}
 use Rattle.rules.proofs.Windows.{and-true}
 
-and-assoc : (a b c : Bool) → ((a && b) && c) ≡ (a && (b && c))
+pub and-assoc : (a b c : Bool) → ((a && b) && c) ≡ (a && (b && c))
 and-assoc true b c = refl
 and-assoc false b c = refl
 

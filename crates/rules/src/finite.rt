@@ -24,12 +24,12 @@ pub fn finite_limits(l: Limits) -> bool
 pub fn all_finite(values: &[f64]) -> bool
     ensures { λ r. ⌜ r ≡ allFinite (now (values .entry)) ⌝ }
 {
+    // Going on behind a value that is not lets the loop take several at a time.
+    let mut all = true;
     let mut i = 0;
     while i < values.len() {
-        if !is_finite(values[i]) {
-            return false;
-        }
+        all = all & is_finite(values[i]);
         i += 1;
     }
-    true
+    all
 }

@@ -1,0 +1,27 @@
+-- Finite or not, one value after the other: what was seen so far and the rest together say what the whole says. Assumes nothing.
+use mathlib.Core.Path.{_≡_, sym, _∙_}
+use mathlib.Core.Bool.{Bool, _&&_}
+use mathlib.Core.List.{List}
+use Prim.Native.Nat.{ℕ, suc, _+_, _≤_, _<_}
+use native.Mathlib.Numerals.{add-one}
+use lib.Ieee.{Float, nan}
+use lib.ListN.{length, drop, getD, drop-of-length-le}
+use lib.Seq.{drop-cons}
+use Rattle.laws.specs.Bools.{every}
+use Rattle.rules.specs.Finite.{finite, allFinite}
+use Rattle.rules.proofs.Windows.{and-true}
+use Rattle.rules.proofs.Bitwise.{and-assoc}
+
+-- `seen` says it of the values before `i`
+abbrev pub Seen : List Float → ℕ → Bool → Type 0
+Seen values i seen = (seen && allFinite (drop i values)) ≡ allFinite values
+
+pub seen-next : (values : List Float) (i : ℕ) (seen : Bool) → i < length values → Seen values i seen
+    → Seen values (i + 1) (seen && finite (getD values i nan))
+unfolding allFinite every
+seen-next values i seen h e =
+    rw (add-one i) (and-assoc seen (finite (getD values i nan)) (allFinite (drop (suc i) values)) ∙ (rw (drop-cons values i nan h) at e))
+
+pub seen-all : (values : List Float) (i : ℕ) (seen : Bool) → length values ≤ i → Seen values i seen → seen ≡ allFinite values
+unfolding allFinite every
+seen-all values i seen h e = sym (and-true seen) ∙ (rw (drop-of-length-le values h) at e)
