@@ -2,8 +2,8 @@
 pub mod Answers
 mod Folds
 mod Signs
-mod Cases
-mod Held
+pub mod Cases
+pub mod Held
 mod Points
 mod Appending
 mod Counting

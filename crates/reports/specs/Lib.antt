@@ -1,0 +1,3 @@
+-- What a flow file says, the report's text, and the report, in the order in which to read it.
+pub mod Flow
+pub mod Steps
