@@ -8,6 +8,7 @@ mod check;
 mod format;
 mod judge;
 mod random;
+mod report;
 mod scope;
 mod show;
 mod smaller;
@@ -21,7 +22,7 @@ use std::io::{Read, Write};
 use std::process::ExitCode;
 
 const USAGE: &str = "usage: oracle list PART | fresh PART COUNT SEED PREFIX | check | pick K | smaller | show
-PART is marks or charts; check, pick, smaller and show read a list from standard input.
+PART is marks, charts or reports; check, pick, smaller and show read a list from standard input.
 fresh writes PREFIX0, PREFIX1, ..";
 
 fn main() -> ExitCode {

@@ -4,7 +4,7 @@ mod Folds
 mod Signs
 pub mod Cases
 pub mod Held
-mod Points
+pub mod Points
 mod Appending
 mod Counting
 mod Outcomes

@@ -1,3 +1,4 @@
 -- What the proofs of the report share, each file after those that it cites.
-pub mod Heads
-pub mod Values
+mod Heads
+mod Values
+mod Evaluations

@@ -1,0 +1,98 @@
+-- Evaluating the chart of a flow file: nothing but 8 and 7 can be refused once its values are finite, and each answer is what the report
+-- tells. Assumes nothing.
+use mathlib.Core.Path.{_≡_, refl, sym, ap, ap₂, _∙_}
+use mathlib.Core.Bool.{Bool, true, false, cond, not}
+use mathlib.Core.List.{List, [], _∷_, _++_}
+use Prim.Native.Nat.{ℕ, _-_, _*_, _≤_}
+use native.Mathlib.Nat.{mul-le-mul-left, le-of-eq, sub-zero}
+use native.Mathlib.Decide.{ℕ-discrete}
+use native.Mathlib.Omega.{arith}
+use borrow.Author.Tests.{le-ltb, eq-eqb, ne-eqb, eqb-true}
+use lib.Dec.{eqb}
+use lib.Ieee.{Float}
+use lib.ListN.{length, take}
+use lib.Seq.{take-all, take-at}
+use Rattle.laws.specs.Refusals.{firstOf}
+use Rattle.laws.proofs.Lists.{length-tabulate}
+use Rattle.rules.specs.Finite.{allFinite}
+use Rattle.charts.specs.declared.Chart.{Chart}
+use Rattle.charts.specs.declared.Refusal.{Refusal}
+use Rattle.charts.specs.declared.Evaluation.{Evaluation}
+use Rattle.charts.specs.declared.Evaluated.the-variants.{Done, Refused}
+use Rattle.charts.specs.Records.{number, recordWrong}
+use Rattle.rules.specs.Marking.{marksOf}
+use Rattle.charts.specs.Series.{bySeries, pointsIn, pointAt, seriesOf}
+use Rattle.charts.specs.Evaluating.{Answer, evaluated, noRoom, storedIn, tooFew, aheadOf7, at7, limitsOf, seriesMarks, answerFor, evaluateOf, lentAfter}
+use Rattle.charts.proofs.Answers.{number-some}
+use Rattle.charts.proofs.Held.{own}
+use Rattle.charts.proofs.Points.{points-most}
+use Rattle.reports.specs.Report.{refusalOf}
+use Rattle.reports.specs.Steps.{size, Legal}
+
+-- ---- the number of an answer
+
+number-is : (n : ℕ) (c : Chart) (values : List Float) → answerFor n c values .number ≡ n
+unfolding answerFor
+number-is n c values = by (eqb n 0) refl
+  where
+    by : (b : Bool) → eqb n 0 ≡ b → answerFor n c values .number ≡ n
+    by true e = rw e (sym (eqb-true n 0 e))
+    by false e = rw e refl
+
+-- ---- evaluating
+
+module _ (c : Chart) (h : Legal c) where
+  points-fit : (s : ℕ) → pointsIn c s ≤ 2048
+  points-fit s =
+      let few : c .count * 1 ≤ c .count * c .size = mul-le-mul-left (c .count) (own c (h .own) .some) in
+      omega (arith, points-most c s, h .few)
+
+  rooms : noRoom c 2048 2048 2048 2048 ≡ false
+  unfolding noRoom
+  rooms = rw (le-ltb 2048 (pointsIn c 0) (points-fit 0), le-ltb 2048 (pointsIn c 1) (points-fit 1)) refl
+
+module _ (c : Chart) (h : Legal c) (values : List Float) (whole : length values ≡ size c) (finite : allFinite values ≡ true) where
+  right : recordWrong c (length values) ≡ false
+  unfolding recordWrong
+  right = rw (h .own, le-ltb (length values) (c .count * c .size) (le-of-eq (sym whole))) refl
+
+  stored : not (allFinite (storedIn c values)) ≡ false
+  stored = ap (λ (l : List Float). not (allFinite l)) (take-all (size c) values (le-of-eq whole)) ∙ ap not finite
+
+  same-refusal : firstOf (aheadOf7 c values 2048 2048 2048 2048 ++ at7 c values) 0 ≡ refusalOf c values
+  unfolding refusalOf firstOf
+  same-refusal = rw (right, rooms c h, stored, finite) refl
+
+  evaluated-is : evaluateOf c values 2048 2048 2048 2048 ≡ answerFor (refusalOf c values) c values
+  unfolding evaluateOf
+  evaluated-is = ap (λ (n : ℕ). answerFor n c values) same-refusal
+
+  pub refused-so : (why : Refusal) → evaluated (Refused why) ≡ evaluateOf c values 2048 2048 2048 2048 → number why ≡ refusalOf c values
+  refused-so why e = ap (λ (a : Answer). a .number) (e ∙ evaluated-is) ∙ number-is (refusalOf c values) c values
+
+  module _ (e : Evaluation) (is : evaluated (Done e) ≡ evaluateOf c values 2048 2048 2048 2048) where
+    pub done-so : refusalOf c values ≡ 0
+    done-so = sym (ap (λ (a : Answer). a .number) (is ∙ evaluated-is) ∙ number-is (refusalOf c values) c values)
+
+    all : evaluated (Done e) ≡ answerFor 0 c values
+    all = is ∙ evaluated-is ∙ ap (λ (n : ℕ). answerFor n c values) done-so
+
+    pub main-limits : e .main ≡ limitsOf c 0 values
+    unfolding answerFor bySeries
+    main-limits = ap (λ (a : Answer). a .main) all
+
+    pub dispersion-limits : e .dispersion ≡ limitsOf c 1 values
+    unfolding answerFor bySeries
+    dispersion-limits = ap (λ (a : Answer). a .dispersion) all
+
+-- ---- the marks that evaluating leaves in a slice
+
+pub length-marks : (c : Chart) (s : ℕ) (values : List Float) → length (seriesMarks c s values) ≡ pointsIn c s
+unfolding seriesMarks marksOf seriesOf
+length-marks c s values = length-tabulate _ (length (seriesOf c s values)) ∙ length-tabulate (pointAt c s values) (pointsIn c s)
+
+pub marks-left : (c : Chart) (s : ℕ) (values : List Float) (old now : List ℕ) (n : ℕ) → now ≡ lentAfter 0 0 (seriesMarks c s values) old
+    → n ≡ pointsIn c s → take (n - 0) now ≡ seriesMarks c s values
+unfolding lentAfter
+marks-left c s values old now n e k =
+    ap₂ take (sub-zero n) e ∙ take-at (seriesMarks c s values) _ n (length-marks c s values ∙ sym k)
