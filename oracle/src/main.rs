@@ -10,10 +10,12 @@ mod judge;
 mod random;
 mod report;
 mod scope;
+mod sheet;
 mod show;
 mod smaller;
 #[cfg(test)]
 mod tests;
+mod trials;
 
 use case::Case;
 use cases::Part;
@@ -21,7 +23,8 @@ use format::Judged;
 use std::io::{Read, Write};
 use std::process::ExitCode;
 
-const USAGE: &str = "usage: oracle list PART | fresh PART COUNT SEED PREFIX | check | pick K | smaller | show
+const USAGE: &str =
+    "usage: oracle list PART | fresh PART COUNT SEED PREFIX | check | pick K | smaller | show | sheets
 PART is marks, charts or reports; check, pick, smaller and show read a list from standard input.
 fresh writes PREFIX0, PREFIX1, ..";
 
@@ -55,6 +58,10 @@ fn run(words: &[&str]) -> Result<ExitCode, String> {
             for (case, _) in get_list()? {
                 println!("{}", show::case(&case, usize::MAX));
             }
+            Ok(ExitCode::SUCCESS)
+        }
+        ["sheets"] => {
+            println!("{}", trials::line());
             Ok(ExitCode::SUCCESS)
         }
         _ => Err(USAGE.to_string()),
