@@ -1,4 +1,4 @@
--- For each public call: any two results that its promise allows for the same inputs coincide.
+-- For each public call: any two results that its promise allows for the same inputs coincide. And 01's table, proved as one.
 pub mod Coincide
 mod Groups
 mod Root
@@ -6,3 +6,4 @@ mod Sets
 mod Rules
 mod Charts
 mod Sheets
+mod Table

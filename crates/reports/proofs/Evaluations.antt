@@ -1,13 +1,12 @@
 -- Evaluating the chart of a flow file: nothing but 8 and 7 can be refused once its values are finite, and each answer is what the report
 -- tells. Assumes nothing.
 use mathlib.Core.Path.{_≡_, refl, sym, ap, ap₂, _∙_}
-use mathlib.Core.Bool.{Bool, true, false, cond, not}
-use mathlib.Core.List.{List, [], _∷_, _++_}
+use mathlib.Core.Bool.{Bool, true, false, not}
+use mathlib.Core.List.{List, _++_}
 use Prim.Native.Nat.{ℕ, _-_, _*_, _≤_}
 use native.Mathlib.Nat.{mul-le-mul-left, le-of-eq, sub-zero}
-use native.Mathlib.Decide.{ℕ-discrete}
 use native.Mathlib.Omega.{arith}
-use borrow.Author.Tests.{le-ltb, eq-eqb, ne-eqb, eqb-true}
+use borrow.Author.Tests.{le-ltb, eqb-true}
 use lib.Dec.{eqb}
 use lib.Ieee.{Float}
 use lib.ListN.{length, take}
@@ -22,8 +21,7 @@ use Rattle.charts.specs.declared.Evaluated.the-variants.{Done, Refused}
 use Rattle.charts.specs.Records.{number, recordWrong}
 use Rattle.rules.specs.Marking.{marksOf}
 use Rattle.charts.specs.Series.{bySeries, pointsIn, pointAt, seriesOf}
-use Rattle.charts.specs.Evaluating.{Answer, evaluated, noRoom, storedIn, tooFew, aheadOf7, at7, limitsOf, seriesMarks, answerFor, evaluateOf, lentAfter}
-use Rattle.charts.proofs.Answers.{number-some}
+use Rattle.charts.specs.Evaluating.{Answer, evaluated, noRoom, storedIn, aheadOf7, at7, limitsOf, seriesMarks, answerFor, evaluateOf, lentAfter}
 use Rattle.charts.proofs.Held.{own}
 use Rattle.charts.proofs.Points.{points-most}
 use Rattle.reports.specs.Report.{refusalOf}

@@ -1,6 +1,6 @@
 -- The report of any bytes: its text, and what the call answers (01, 'The report program'; 'Numbers a call may give back', row 6).
 -- Definitions only.
-use mathlib.Core.Bool.{Bool, not, cond}
+use mathlib.Core.Bool.{not, cond}
 use mathlib.Core.List.{List, _∷_, _++_}
 use Prim.Native.Nat.{ℕ}
 use lib.Dec.{eqb, leb}

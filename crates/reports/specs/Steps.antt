@@ -1,12 +1,10 @@
 -- What the parts of the flow file's reader find. Nothing here has to be believed: the proofs tie it to Flow.antt. Definitions only.
-use mathlib.Core.Bool.{Bool, false, cond}
+use mathlib.Core.Bool.{false}
 use mathlib.Core.Path.{_≡_}
 use mathlib.Core.List.{List}
 use Prim.Native.Nat.{ℕ, _*_, _≤_}
 use lib.Ieee.{Float}
 use lib.ListN.{take}
-use Rattle.groups.specs.declared.Reading.{Reading}
-use Rattle.groups.specs.declared.Reading.the-variants.{Number, Fault}
 use Rattle.charts.specs.declared.Chart.{Chart}
 use Rattle.charts.specs.Records.{ownWrong}
 use Rattle.reports.specs.declared.flow.Head.{Head}

@@ -62,10 +62,7 @@ fn sheet_of(values: &[f64], set: RuleSet, room: &mut [u8]) -> usize
 fn cut(values: &[f64], set: RuleSet, sheet: &[u8], counts: &mut [u64; 12]) {
     let mut n: usize = 0;
     while n < sheet.len() {
-        count(
-            counts,
-            sheets::check(values, limits(), set, &sheet[0..n]),
-        );
+        count(counts, sheets::check(values, limits(), set, &sheet[0..n]));
         n += 1;
     }
 }

@@ -1,5 +1,5 @@
 -- `flow::read_values` meets its contract: its loop reads the values one by one. Assumes nothing.
-use mathlib.Core.Path.{refl, sym, ap, _∙_}
+use mathlib.Core.Path.{sym, _∙_}
 use Prim.Native.Nat.{_-_}
 use native.Mathlib.Omega.{arith}
 use Rattle.charts.proofs.Held.{own}
