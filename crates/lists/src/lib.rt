@@ -282,7 +282,7 @@ pub fn read_bytes(list: &[u8], at: usize, item: Item) -> Bytes
             if list.len() < from {
                 return Bytes::Fault(cut);
             }
-            if (list.len() - from) as u64 < read.value {
+            if ((list.len() - from) as u64) < read.value {
                 return Bytes::Fault(cut);
             }
             Bytes::Read(Stretch {
