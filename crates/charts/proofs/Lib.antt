@@ -7,6 +7,6 @@ pub mod Held
 pub mod Points
 mod Appending
 mod Counting
-mod Outcomes
+pub mod Outcomes
 mod Surveys
 pub mod Examples

@@ -1,19 +1,20 @@
 -- Evaluating the chart of a flow file: nothing but 8 and 7 can be refused once its values are finite, and each answer is what the report
 -- tells. Assumes nothing.
 use mathlib.Core.Path.{_≡_, refl, sym, ap, ap₂, _∙_}
-use mathlib.Core.Bool.{Bool, true, false, not}
-use mathlib.Core.List.{List, _++_}
+use mathlib.Core.Bool.{Bool, true, false, cond, not}
+use mathlib.Core.List.{List, _∷_, _++_}
 use Prim.Native.Nat.{ℕ, _-_, _*_, _≤_}
 use native.Mathlib.Nat.{mul-le-mul-left, le-of-eq, sub-zero}
 use native.Mathlib.Omega.{arith}
-use borrow.Author.Tests.{le-ltb, eqb-true}
+use borrow.Author.Tests.{le-ltb, eq-eqb, ne-eqb, eqb-true, not-false}
 use lib.Dec.{eqb}
 use lib.Ieee.{Float}
 use lib.ListN.{length, take}
 use lib.Seq.{take-all, take-at}
 use Rattle.laws.specs.Refusals.{firstOf}
 use Rattle.laws.proofs.Lists.{length-tabulate}
-use Rattle.rules.specs.Finite.{allFinite}
+use Rattle.laws.proofs.Refusals.{accepted}
+use Rattle.rules.specs.Finite.{allFinite, finiteLimits}
 use Rattle.charts.specs.declared.Chart.{Chart}
 use Rattle.charts.specs.declared.Refusal.{Refusal}
 use Rattle.charts.specs.declared.Evaluation.{Evaluation}
@@ -21,10 +22,13 @@ use Rattle.charts.specs.declared.Evaluated.the-variants.{Done, Refused}
 use Rattle.charts.specs.Records.{number, recordWrong}
 use Rattle.rules.specs.Marking.{marksOf}
 use Rattle.charts.specs.Series.{bySeries, pointsIn, pointAt, seriesOf}
-use Rattle.charts.specs.Evaluating.{Answer, evaluated, noRoom, storedIn, aheadOf7, at7, limitsOf, seriesMarks, answerFor, evaluateOf, lentAfter}
+use Rattle.charts.specs.Evaluating.{Answer, evaluated, tooFew, noRoom, storedIn, aheadOf7, at7, limitsOf, seriesMarks, answerFor, evaluateOf, lentAfter}
 use Rattle.charts.proofs.Held.{own}
+use Rattle.charts.specs.Limits.{measured}
 use Rattle.charts.proofs.Points.{points-most}
-use Rattle.reports.specs.Report.{refusalOf}
+use Rattle.charts.proofs.Outcomes.{Sound, some-held, sound-parts}
+use Rattle.reports.specs.Text.{bothMarks, chartText, rLine}
+use Rattle.reports.specs.Report.{firstIndex, refusalOf, chartReport}
 use Rattle.reports.specs.Steps.{size, Legal}
 
 -- ---- the number of an answer
@@ -82,6 +86,47 @@ module _ (c : Chart) (h : Legal c) (values : List Float) (whole : length values 
     pub dispersion-limits : e .dispersion ≡ limitsOf c 1 values
     unfolding answerFor bySeries
     dispersion-limits = ap (λ (a : Answer). a .dispersion) all
+
+-- ---- what is known where nothing is refused
+
+module _ (c : Chart) (values : List Float) (h : refusalOf c values ≡ 0) where
+  finite-passed : firstOf ((tooFew c, 8) ∷ at7 c values) 0 ≡ 0
+  unfolding refusalOf
+  finite-passed = accepted (not (allFinite values)) 3 _ (omega arith) h .1
+
+  pub some-points : 1 ≤ c .count
+  some-points = some-held c (accepted (tooFew c) 8 _ (omega arith) finite-passed .0)
+
+  sound : Sound c values
+  sound =
+      sound-parts c values
+      (not-false (measured c values .sound)
+      (accepted (not (measured c values .sound)) 7 _ (omega arith) (accepted (tooFew c) 8 _ (omega arith) finite-passed .1) .0))
+
+  pub finite-limits : (s : ℕ) → finiteLimits (limitsOf c s values) ≡ true
+  unfolding bySeries
+  finite-limits s = by (eqb s 0)
+    where
+      by : (b : Bool) → finiteLimits (cond b (measured c values .main) (measured c values .dispersion)) ≡ true
+      by true = sound .main-limits
+      by false = sound .dispersion-limits
+
+-- ---- the report
+
+module _ (c : Chart) (values : List Float) where
+  pub report-refused : (n : ℕ) → n ≡ refusalOf c values → (n ≡ 0 → ⊥) → rLine n ≡ chartReport c values
+  unfolding chartReport
+  report-refused n e ne = rw (sym e, ne-eqb n 0 ne) refl
+
+  pub not-finite : allFinite values ≡ false → 3 ≡ refusalOf c values
+  unfolding refusalOf firstOf
+  not-finite e = rw e refl
+
+  pub report-done : refusalOf c values ≡ 0
+      → chartText (c .kind) (c .size) (c .set .mask) (limitsOf c 0 values) (limitsOf c 1 values)
+      (bothMarks (firstIndex c) (seriesMarks c 0 values) (seriesMarks c 1 values)) ≡ chartReport c values
+  unfolding chartReport
+  report-done e = rw (eq-eqb (refusalOf c values) 0 e) refl
 
 -- ---- the marks that evaluating leaves in a slice
 

@@ -3,3 +3,4 @@ pub mod Flow
 pub mod Text
 pub mod Report
 pub mod Steps
+pub mod TextSteps

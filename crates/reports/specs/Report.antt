@@ -1,7 +1,7 @@
 -- The report of any bytes: its text, and what the call answers (01, 'The report program'; 'Numbers a call may give back', row 6).
 -- Definitions only.
 use mathlib.Core.Bool.{not, cond}
-use mathlib.Core.List.{List, _∷_, _++_}
+use mathlib.Core.List.{List, _∷_}
 use Prim.Native.Nat.{ℕ}
 use lib.Dec.{eqb, leb}
 use lib.Ieee.{Float}
@@ -14,17 +14,13 @@ use Rattle.charts.specs.Evaluating.{tooFew, at7, limitsOf, seriesMarks}
 use Rattle.reports.specs.declared.Reported.{Reported}
 use Rattle.reports.specs.declared.Reported.the-variants.{Text, TooShort}
 use Rattle.reports.specs.Flow.{Said, refused, flow, flowOf}
-use Rattle.reports.specs.Text.{Mark, listed, chartText, rLine}
+use Rattle.reports.specs.Text.{bothMarks, chartText, rLine}
 
 -- ---- the text
 
 -- "here an index is the position, plus 1 on a moving range series" (01, 'What is ported')
 unfoldable pub firstIndex : Chart → ℕ
 firstIndex c = byKind (c .kind) 1 0 0
-
--- the marks of both series, "in order of series, index, test"
-abbrev pub reportMarks : Chart → List Float → List Mark
-reportMarks c values = listed 0 0 (seriesMarks c 0 values) ++ listed 1 (firstIndex c) (seriesMarks c 1 values)
 
 -- "then 3, 8, 7"
 unfoldable pub refusalOf : Chart → List Float → ℕ
@@ -34,7 +30,8 @@ refusalOf c values = firstOf ((not (allFinite values), 3) ∷ (tooFew c, 8) ∷ 
 unfoldable pub chartReport : Chart → List Float → List ℕ
 chartReport c values =
     cond (eqb (refusalOf c values) 0)
-    (chartText (c .kind) (c .size) (c .set .mask) (limitsOf c 0 values) (limitsOf c 1 values) (reportMarks c values))
+    (chartText (c .kind) (c .size) (c .set .mask) (limitsOf c 0 values) (limitsOf c 1 values)
+    (bothMarks (firstIndex c) (seriesMarks c 0 values) (seriesMarks c 1 values)))
     (rLine (refusalOf c values))
 
 abbrev pub textOn : Said → List ℕ

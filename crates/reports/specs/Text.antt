@@ -85,6 +85,10 @@ unfoldable pub listed : ℕ → ℕ → List ℕ → List Mark
 listed series index [] = []
 listed series index (m ∷ ms) = pointMarks series index m ++ listed series (suc index) ms
 
+-- the marks of both series; those of a moving range series start at index 1
+abbrev pub bothMarks : ℕ → List ℕ → List ℕ → List Mark
+bothMarks first marks others = listed 0 0 marks ++ listed 1 first others
+
 -- ---- the text of a chart
 
 -- "E: number of V lines."

@@ -17,17 +17,11 @@ abbrev μ-loop : tie.MeasureT-loop
 loop-holds : tie.Need-loop-holds Inv-loop μ-loop
 loop-holds c = matching-starts _ _
 
-mul-wide-byte : tie.Need-mul-wide-byte Inv-loop μ-loop
-mul-wide-byte c = search needs
-
 shared-slice-read-wide-byte : tie.Need-shared-slice-read-wide-byte Inv-loop μ-loop
 shared-slice-read-wide-byte c = search needs
 
 wide-byte-requires : tie.Need-wide-byte-requires Inv-loop μ-loop
 wide-byte-requires c κs = search needs
-
-mul-wide-byte-2 : tie.Need-mul-wide-byte-2 Inv-loop μ-loop
-mul-wide-byte-2 c = search needs
 
 shared-slice-read-wide-byte-2 : tie.Need-shared-slice-read-wide-byte-2 Inv-loop μ-loop
 shared-slice-read-wide-byte-2 c = search needs
@@ -61,10 +55,8 @@ bytes-apart-spec =
     Inv-loop
     μ-loop
     loop-holds
-    mul-wide-byte
     shared-slice-read-wide-byte
     wide-byte-requires
-    mul-wide-byte-2
     shared-slice-read-wide-byte-2
     wide-byte-requires-2
     returns
