@@ -5,6 +5,7 @@ use mathlib.Core.Bool.{Bool, true, false, cond, not}
 use mathlib.Core.List.{List, _∷_, _++_}
 use Prim.Native.Nat.{ℕ, _-_, _*_, _≤_}
 use native.Mathlib.Nat.{mul-le-mul-left, le-of-eq, sub-zero}
+use native.Mathlib.Decide.{ℕ-discrete}
 use native.Mathlib.Omega.{arith}
 use borrow.Author.Tests.{le-ltb, eq-eqb, ne-eqb, eqb-true, not-false}
 use lib.Dec.{eqb}
@@ -14,18 +15,20 @@ use lib.Seq.{take-all, take-at}
 use Rattle.laws.specs.Refusals.{firstOf}
 use Rattle.laws.proofs.Lists.{length-tabulate}
 use Rattle.laws.proofs.Refusals.{accepted}
+use Rattle.rules.specs.declared.Limits.{Limits}
 use Rattle.rules.specs.Finite.{allFinite, finiteLimits}
 use Rattle.charts.specs.declared.Chart.{Chart}
 use Rattle.charts.specs.declared.Refusal.{Refusal}
 use Rattle.charts.specs.declared.Evaluation.{Evaluation}
 use Rattle.charts.specs.declared.Evaluated.the-variants.{Done, Refused}
-use Rattle.charts.specs.Records.{number, recordWrong}
+use Rattle.charts.specs.Records.{number, byKind, recordWrong}
 use Rattle.rules.specs.Marking.{marksOf}
 use Rattle.charts.specs.Series.{bySeries, pointsIn, pointAt, seriesOf}
 use Rattle.charts.specs.Evaluating.{Answer, evaluated, tooFew, noRoom, storedIn, aheadOf7, at7, limitsOf, seriesMarks, answerFor, evaluateOf, lentAfter}
 use Rattle.charts.proofs.Held.{own}
 use Rattle.charts.specs.Limits.{measured}
-use Rattle.charts.proofs.Points.{points-most}
+use Rattle.charts.proofs.Cases.{kind-1, subgroups}
+use Rattle.charts.proofs.Points.{points-most, points-main, points-subgroups}
 use Rattle.charts.proofs.Outcomes.{Sound, some-held, sound-parts}
 use Rattle.reports.specs.Text.{bothMarks, chartText, rLine}
 use Rattle.reports.specs.Report.{firstIndex, refusalOf, chartReport}
@@ -44,10 +47,13 @@ number-is n c values = by (eqb n 0) refl
 -- ---- evaluating
 
 module _ (c : Chart) (h : Legal c) where
-  points-fit : (s : ℕ) → pointsIn c s ≤ 2048
-  points-fit s =
+  pub few-samples : c .count ≤ 2048
+  few-samples =
       let few : c .count * 1 ≤ c .count * c .size = mul-le-mul-left (c .count) (own c (h .own) .some) in
-      omega (arith, points-most c s, h .few)
+      omega (arith, h .few)
+
+  pub points-fit : (s : ℕ) → pointsIn c s ≤ 2048
+  points-fit s = omega (arith, points-most c s, few-samples)
 
   rooms : noRoom c 2048 2048 2048 2048 ≡ false
   unfolding noRoom
@@ -87,6 +93,11 @@ module _ (c : Chart) (h : Legal c) (values : List Float) (whole : length values 
     unfolding answerFor bySeries
     dispersion-limits = ap (λ (a : Answer). a .dispersion) all
 
+-- the room that the report has for the series and the marks
+pub at-room : (c : Chart) (values : List Float) {a b x y : ℕ} → a ≡ 2048 → b ≡ 2048 → x ≡ 2048 → y ≡ 2048
+    → evaluateOf c values a b x y ≡ evaluateOf c values 2048 2048 2048 2048
+at-room c values a b x y = rw (a, b, x, y) refl
+
 -- ---- what is known where nothing is refused
 
 module _ (c : Chart) (values : List Float) (h : refusalOf c values ≡ 0) where
@@ -122,11 +133,28 @@ module _ (c : Chart) (values : List Float) where
   unfolding refusalOf firstOf
   not-finite e = rw e refl
 
-  pub report-done : refusalOf c values ≡ 0
-      → chartText (c .kind) (c .size) (c .set .mask) (limitsOf c 0 values) (limitsOf c 1 values)
-      (bothMarks (firstIndex c) (seriesMarks c 0 values) (seriesMarks c 1 values)) ≡ chartReport c values
+  pub report-done : {main dispersion : Limits} {marks others : List ℕ} → refusalOf c values ≡ 0
+      → main ≡ limitsOf c 0 values → dispersion ≡ limitsOf c 1 values → marks ≡ seriesMarks c 0 values → others ≡ seriesMarks c 1 values
+      → chartText (c .kind) (c .size) (c .set .mask) main dispersion (bothMarks (firstIndex c) marks others) ≡ chartReport c values
   unfolding chartReport
-  report-done e = rw (eq-eqb (refusalOf c values) 0 e) refl
+  report-done e u v x y = rw (u, v, x, y, eq-eqb (refusalOf c values) 0 e) refl
+
+-- ---- points and indices
+
+pub main-points : (c : Chart) → pointsIn c 0 ≡ c .count
+main-points c = by (ℕ-discrete (c .kind) 1)
+  where
+    by : Dec (c .kind ≡ 1) → pointsIn c 0 ≡ c .count
+    by (yes e) = points-main c 0 e refl
+    by (no ne) = points-subgroups c 0 ne
+
+pub first-small : (c : Chart) → firstIndex c ≤ 1
+unfolding firstIndex
+first-small c = by (ℕ-discrete (c .kind) 1)
+  where
+    by : Dec (c .kind ≡ 1) → byKind (c .kind) 1 0 0 ≤ 1
+    by (yes e) = le-of-eq (kind-1 (c .kind) 1 0 0 e)
+    by (no ne) = omega (arith, subgroups {A = ℕ} (c .kind) 1 0 ne)
 
 -- ---- the marks that evaluating leaves in a slice
 

@@ -91,7 +91,18 @@ fn tell(chart: Chart, e: Evaluation, marks: &[u16], others: &[u16], out: &mut [u
     }
     let main = e.main;
     let dispersion = e.dispersion;
-    let n = text::put_chart(out, kind, size, set, main, dispersion, first, marks, others, extent.lines);
+    let n = text::put_chart(
+        out,
+        kind,
+        size,
+        set,
+        main,
+        dispersion,
+        first,
+        marks,
+        others,
+        extent.lines,
+    );
     Reported::Text(n)
 }
 

@@ -1,6 +1,5 @@
 -- `first_index` meets its contract, kind by kind. Assumes nothing.
 use mathlib.Core.Path.{sym}
-use Prim.Native.Nat.{ℕ}
 use native.Mathlib.Omega.{arith}
 use Rattle.charts.proofs.Cases.{kind-1, subgroups}
 use Rattle.reports.specs.Report.{firstIndex}

@@ -1,71 +1,95 @@
+-- `report` meets its contract: the bytes are read, and the chart is told. Assumes nothing.
+use mathlib.Core.Path.{_≡_, sym, ap, subst, _∙_}
+use mathlib.Core.List.{List}
+use Prim.Native.Nat.{ℕ, _-_, _≤_}
+use native.Mathlib.Nat.{sub-zero}
+use native.Mathlib.Omega.{arith}
+use lib.Ieee.{binary64, ofBits}
+use lib.ListN.{length, take, length-replicate}
+use lib.Seq.{length-take-le}
+use Rattle.laws.specs.Front.{atFrontIfRoom}
+use Rattle.charts.proofs.Held.{own}
+use Rattle.reports.specs.declared.flow.Flow.{Flow}
+use Rattle.reports.specs.Flow.{flow, flowOf}
+use Rattle.reports.specs.Text.{rLine}
+use Rattle.reports.specs.Report.{chartReport, textOn, textOf, roomFor}
+use Rattle.reports.specs.Steps.{Legal, LegalFlow, saidBy, size}
 use borrow.Author.Needs.{needs}
 use Rattle.reports.proofs.report.Statement.{statement}
 use Rattle.reports.proofs.report.Tie as tie
-use Rattle.reports.proofs.report.Reads as reads
-use Rattle.reports.proofs.report.Lts as lts
-use Rattle.reports.proofs.flow.read_flow.Reads as read-flow-reads
-use Rattle.reports.proofs.refuse.Reads as refuse-reads
-use Rattle.reports.proofs.report_chart.Reads as report-chart-reads
 
--- src/lib.rt:141:34
+-- ---- what is known of the chart that was read
+
+legal : (c : tie.After-chart) → Legal (c .chart .given .0 .0)
+legal c = subst LegalFlow (c .chart .given .1) (c .before .before .before .read-flow .ensures .1)
+
+said : (c : tie.After-chart) → flowOf (c .before .before .before .before .before .before .before .args .input .now) ≡ flow (c .chart .given .0 .0) (take (size (c .chart .given .0 .0)) (c .before .before .before .read-flow .last .1 .0))
+said c = c .before .before .before .read-flow .ensures .0 ∙ ap (λ (f : Flow). saidBy f (c .before .before .before .read-flow .last .1 .0)) (c .chart .given .1)
+
+room : (c : tie.After-chart) → size (c .chart .given .0 .0) ≤ length (c .before .before .before .read-flow .last .1 .0)
+room c = omega (arith, legal c .few, c .before .before .before .read-flow .kept .1 .0, length-replicate 2048 (ofBits binary64 0))
+
 slice-aggregate-read-flow : tie.Need-slice-aggregate-read-flow
 slice-aggregate-read-flow c = search needs
 
--- src/lib.rt:141:11
 read-flow-requires : tie.Need-read-flow-requires
 read-flow-requires c κs = search needs
 
--- src/lib.rt:142:23
 enum-known-why : tie.Need-enum-known-why
 enum-known-why c = search needs
 
--- src/lib.rt:142:38
 cast-refuse : tie.Need-cast-refuse
 cast-refuse c = search needs
 
--- src/lib.rt:142:31
 refuse-requires : tie.Need-refuse-requires
 refuse-requires c κs = search needs
 
--- src/lib.rt:143:20
 enum-known-chart : tie.Need-enum-known-chart
 enum-known-chart c = search needs
 
--- src/lib.rt:144:21
 mul-n : tie.Need-mul-n
-mul-n c = ?
+mul-n c = omega (arith, own (c .before .before .chart .given .0 .0) (legal (c .before .before) .own) .all)
 
--- src/lib.rt:145:33
 sub-report-chart : tie.Need-sub-report-chart
 sub-report-chart c = search needs
 
--- src/lib.rt:145:33
 part-report-chart-start : tie.Need-part-report-chart-start
 part-report-chart-start c = search needs
 
--- src/lib.rt:145:33
 part-report-chart-end : tie.Need-part-report-chart-end
-part-report-chart-end c = ?
+part-report-chart-end c = room (c .before .before .before)
 
--- src/lib.rt:145:13
 report-chart-requires : tie.Need-report-chart-requires
-report-chart-requires c κs = ?
+report-chart-requires c κs =
+    let place = c .before .before .before .before .before in
+    let n = size (c .before .before .before .before .before .chart .given .0 .0) in
+    (legal place, ap (λ (k : ℕ). length (take k (c .before .before .before .before .before .before .before .before .read-flow .last .1 .0))) (sub-zero n) ∙ length-take-le n (c .before .before .before .before .before .before .before .before .read-flow .last .1 .0) (room place))
 
--- src/lib.rt:136:1
 same-length : tie.Need-same-length
 same-length c = search needs
 
--- src/lib.rt:136:1
 returns : tie.Need-returns
-returns c = ?
+unfolding textOf
+returns c =
+    let text = c .before .before .before .before .before .before .before .before .read-flow .ensures .0 ∙ ap (λ (f : Flow). saidBy f (c .before .before .before .before .before .before .before .before .read-flow .last .1 .0)) (c .before .before .before .before .before .why .given .1) in
+    let is : textOf (c .before .before .before .before .before .before .before .before .before .before .before .before .args .input .now) ≡ rLine (c .before .before .before .before .before .why .given .0 .0) = ap textOn text in (
+      c .before .before .refuse .ensures .0 ∙ ap (λ (x : List ℕ). roomFor x (length (c .before .before .before .before .before .before .before .before .before .before .before .before .args .out .now))) (sym is),
+      c .before .before .refuse .ensures .1 ∙ ap (λ (x : List ℕ). atFrontIfRoom x (c .before .before .before .before .before .before .before .before .before .before .before .before .args .out .now)) (sym is),
+    )
 
--- src/lib.rt:136:1
 same-length-2 : tie.Need-same-length-2
 same-length-2 c = search needs
 
--- src/lib.rt:136:1
 returns-2 : tie.Need-returns-2
-returns-2 c = ?
+unfolding textOf
+returns-2 c =
+    let place = c .before .before .before .before .before .before .before .before in
+    let n = size (c .before .before .before .before .before .before .before .before .chart .given .0 .0) in
+    let is : textOf (c .before .before .before .before .before .before .before .before .before .before .before .before .before .before .before .args .input .now) ≡ chartReport (c .before .before .before .before .before .before .before .before .chart .given .0 .0) (take (n - 0) (c .before .before .before .before .before .before .before .before .before .before .before .read-flow .last .1 .0)) =
+    ap textOn (said place) ∙ ap (λ (k : ℕ). chartReport (c .before .before .before .before .before .before .before .before .chart .given .0 .0) (take k (c .before .before .before .before .before .before .before .before .before .before .before .read-flow .last .1 .0))) (sym (sub-zero n)) in (
+      c .before .before .report-chart .ensures .0 ∙ ap (λ (x : List ℕ). roomFor x (length (c .before .before .before .before .before .before .before .before .before .before .before .before .before .before .before .args .out .now))) (sym is),
+      c .before .before .report-chart .ensures .1 ∙ ap (λ (x : List ℕ). atFrontIfRoom x (c .before .before .before .before .before .before .before .before .before .before .before .before .before .before .before .args .out .now)) (sym is),
+    )
 
 pub report-spec : {M : Type 1} → statement M
 report-spec =

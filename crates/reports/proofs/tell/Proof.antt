@@ -1,35 +1,55 @@
+-- `tell` meets its contract: the text is measured, and then written. Assumes nothing.
+use mathlib.Core.Path.{_≡_, ap, _∙_}
+use mathlib.Core.List.{List}
+use Prim.Native.Nat.{ℕ}
+use native.Mathlib.Omega.{arith}
+use lib.ListN.{length}
+use Rattle.laws.specs.Front.{atFront}
+use Rattle.reports.specs.Report.{firstIndex}
+use Rattle.reports.specs.TextSteps.{textOf}
+use Rattle.reports.proofs.Rooms.{too-short, fits}
 use borrow.Author.Needs.{needs}
 use Rattle.reports.proofs.tell.Statement.{statement}
 use Rattle.reports.proofs.tell.Tie as tie
-use Rattle.reports.proofs.tell.Reads as reads
-use Rattle.reports.proofs.tell.Lts as lts
-use Rattle.reports.proofs.first_index.Reads as first-index-reads
-use Rattle.reports.proofs.text.measure_chart.Reads as measure-chart-reads
-use Rattle.reports.proofs.text.put_chart.Reads as put-chart-reads
 
--- src/lib.rt:87:9
+-- the text, told the index of the second series' first point
+abbrev text : tie.Start → ℕ → List ℕ
+text c first =
+    let args = c .args in
+    textOf (args .chart .kind) (args .chart .size) (args .chart .set .mask) (args .e .main) (args .e .dispersion) first (args .marks .now)
+    (args .others .now)
+
+measured : (c : tie.After-measure-chart) → c .measure-chart .result .len ≡ length (text (c .before .before .before .before .before) (firstIndex (c .before .before .before .before .before .args .chart)))
+measured c =
+    c .measure-chart .ensures .bytes (c .before .before .before .before .before .args .e .main) (c .before .before .before .before .before .args .e .dispersion)
+    ∙ ap (λ (k : ℕ). length (text (c .before .before .before .before .before) k)) (c .before .first-index .ensures .0)
+
 first-index-requires : tie.Need-first-index-requires
 first-index-requires c κs = search needs
 
--- src/lib.rt:88:9
 measure-chart-requires : tie.Need-measure-chart-requires
 measure-chart-requires c κs = search needs
 
--- src/lib.rt:90:9
 returns : tie.Need-returns
-returns c = ?
+returns c = too-short (text (c .before .before .before .before .before .before .before) (firstIndex (c .before .before .before .before .before .before .before .args .chart))) (c .before .before .before .before .before .before .before .args .out .now) (omega (arith, measured (c .before .before), c .if1 .taken))
 
--- src/lib.rt:94:9
 put-chart-requires : tie.Need-put-chart-requires
-put-chart-requires c κs = ?
+put-chart-requires c κs =
+    let m = c .before .before .before .before .before .measure-chart .ensures in (
+      omega (arith, m .bytes (c .before .before .before .before .before .before .before .before .before .before .args .e .main) (c .before .before .before .before .before .before .before .before .before .before .args .e .dispersion), c .before .before .before .if1 .left),
+      (c .before .before .before .before .before .before .before .before .before .before .pre .0, (rw (c .before .before .before .before .before .before .first-index .ensures .0) (c .before .before .before .before .before .before .before .before .before .before .pre .1), m .number)),
+    )
 
--- src/lib.rt:74:1
 same-length : tie.Need-same-length
 same-length c = search needs
 
--- src/lib.rt:74:1
 returns-2 : tie.Need-returns-2
-returns-2 c = ?
+returns-2 c =
+    let start = c .before .before .before .before .before .before .before .before .before .before .before .before .before in
+    let is = c .before .before .before .before .before .before .before .before .before .first-index .ensures .0 in
+    fits (text start (firstIndex (c .before .before .before .before .before .before .before .before .before .before .before .before .before .args .chart))) (c .before .before .before .before .before .before .before .before .before .before .before .before .before .args .out .now) (omega (arith, measured (c .before .before .before .before .before .before .before .before), c .before .before .before .before .before .before .if1 .left)) _ _
+    (c .before .before .put-chart .ensures .0 ∙ ap (λ (k : ℕ). length (text start k)) is)
+    (c .before .before .put-chart .ensures .1 ∙ ap (λ (k : ℕ). atFront (text start k) (c .before .before .before .before .before .before .before .before .before .before .before .before .before .args .out .now)) is)
 
 pub tell-spec : {M : Type 1} → statement M
 tell-spec =
