@@ -10,7 +10,9 @@ refusal-len-requires : tie.Need-refusal-len-requires
 refusal-len-requires c κs = search needs
 
 returns : tie.Need-returns
-returns c = too-short (rLine (c .before .before .before .args .why)) (c .before .before .before .args .out .now) (omega (arith, c .before .refusal-len .ensures, c .if1 .taken))
+returns c =
+    let args = c .before .before .before .args in
+    too-short (rLine (args .why)) (args .out .now) (omega (arith, c .before .refusal-len .ensures, c .if1 .taken))
 
 put-refusal-requires : tie.Need-put-refusal-requires
 put-refusal-requires c κs = search needs
@@ -20,8 +22,12 @@ same-length c = search needs
 
 returns-2 : tie.Need-returns-2
 returns-2 c =
-    fits (rLine (c .before .before .before .before .before .before .before .args .why)) (c .before .before .before .before .before .before .before .args .out .now) (omega (arith, c .before .before .before .before .before .refusal-len .ensures, c .before .before .before .before .if1 .left)) _ _
-    (c .before .before .put-refusal .ensures .0) (c .before .before .put-refusal .ensures .1)
+    let args = c .before .before .before .before .before .before .before .args in
+    let refusal-len = c .before .before .before .before .before .refusal-len in
+    let if1 = c .before .before .before .before .if1 in
+    let put-refusal = c .before .before .put-refusal in
+    fits (rLine (args .why)) (args .out .now) (omega (arith, refusal-len .ensures, if1 .left)) _ _
+    (put-refusal .ensures .0) (put-refusal .ensures .1)
 
 pub refuse-spec : {M : Type 1} → statement M
 refuse-spec =

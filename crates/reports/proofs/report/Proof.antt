@@ -24,7 +24,9 @@ legal : (c : tie.After-chart) → Legal (c .chart .given .0 .0)
 legal c = subst LegalFlow (c .chart .given .1) (c .before .before .before .read-flow .ensures .1)
 
 said : (c : tie.After-chart) → flowOf (c .before .before .before .before .before .before .before .args .input .now) ≡ flow (c .chart .given .0 .0) (take (size (c .chart .given .0 .0)) (c .before .before .before .read-flow .last .1 .0))
-said c = c .before .before .before .read-flow .ensures .0 ∙ ap (λ (f : Flow). saidBy f (c .before .before .before .read-flow .last .1 .0)) (c .chart .given .1)
+said c =
+    let read-flow = c .before .before .before .read-flow in
+    read-flow .ensures .0 ∙ ap (λ (f : Flow). saidBy f (read-flow .last .1 .0)) (c .chart .given .1)
 
 room : (c : tie.After-chart) → size (c .chart .given .0 .0) ≤ length (c .before .before .before .read-flow .last .1 .0)
 room c = omega (arith, legal c .few, c .before .before .before .read-flow .kept .1 .0, length-replicate 2048 (ofBits binary64 0))
@@ -61,9 +63,12 @@ part-report-chart-end c = room (c .before .before .before)
 
 report-chart-requires : tie.Need-report-chart-requires
 report-chart-requires c κs =
-    let place = c .before .before .before .before .before in
-    let n = size (c .before .before .before .before .before .chart .given .0 .0) in
-    (legal place, ap (λ (k : ℕ). length (take k (c .before .before .before .before .before .before .before .before .read-flow .last .1 .0))) (sub-zero n) ∙ length-take-le n (c .before .before .before .before .before .before .before .before .read-flow .last .1 .0) (room place))
+    let read-flow = c .before .before .before .before .before .before .before .before .read-flow in
+    let chart = c .before .before .before .before .before .chart in
+    let before = c .before .before .before .before .before in
+    let place = before in
+    let n = size (chart .given .0 .0) in
+    (legal place, ap (λ (k : ℕ). length (take k (read-flow .last .1 .0))) (sub-zero n) ∙ length-take-le n (read-flow .last .1 .0) (room place))
 
 same-length : tie.Need-same-length
 same-length c = search needs
@@ -71,10 +76,14 @@ same-length c = search needs
 returns : tie.Need-returns
 unfolding textOf
 returns c =
-    let text = c .before .before .before .before .before .before .before .before .read-flow .ensures .0 ∙ ap (λ (f : Flow). saidBy f (c .before .before .before .before .before .before .before .before .read-flow .last .1 .0)) (c .before .before .before .before .before .why .given .1) in
-    let is : textOf (c .before .before .before .before .before .before .before .before .before .before .before .before .args .input .now) ≡ rLine (c .before .before .before .before .before .why .given .0 .0) = ap textOn text in (
-      c .before .before .refuse .ensures .0 ∙ ap (λ (x : List ℕ). roomFor x (length (c .before .before .before .before .before .before .before .before .before .before .before .before .args .out .now))) (sym is),
-      c .before .before .refuse .ensures .1 ∙ ap (λ (x : List ℕ). atFrontIfRoom x (c .before .before .before .before .before .before .before .before .before .before .before .before .args .out .now)) (sym is),
+    let args = c .before .before .before .before .before .before .before .before .before .before .before .before .args in
+    let read-flow = c .before .before .before .before .before .before .before .before .read-flow in
+    let why = c .before .before .before .before .before .why in
+    let refuse = c .before .before .refuse in
+    let text = read-flow .ensures .0 ∙ ap (λ (f : Flow). saidBy f (read-flow .last .1 .0)) (why .given .1) in
+    let is : textOf (args .input .now) ≡ rLine (why .given .0 .0) = ap textOn text in (
+      refuse .ensures .0 ∙ ap (λ (x : List ℕ). roomFor x (length (args .out .now))) (sym is),
+      refuse .ensures .1 ∙ ap (λ (x : List ℕ). atFrontIfRoom x (args .out .now)) (sym is),
     )
 
 same-length-2 : tie.Need-same-length-2
@@ -83,12 +92,17 @@ same-length-2 c = search needs
 returns-2 : tie.Need-returns-2
 unfolding textOf
 returns-2 c =
-    let place = c .before .before .before .before .before .before .before .before in
-    let n = size (c .before .before .before .before .before .before .before .before .chart .given .0 .0) in
-    let is : textOf (c .before .before .before .before .before .before .before .before .before .before .before .before .before .before .before .args .input .now) ≡ chartReport (c .before .before .before .before .before .before .before .before .chart .given .0 .0) (take (n - 0) (c .before .before .before .before .before .before .before .before .before .before .before .read-flow .last .1 .0)) =
-    ap textOn (said place) ∙ ap (λ (k : ℕ). chartReport (c .before .before .before .before .before .before .before .before .chart .given .0 .0) (take k (c .before .before .before .before .before .before .before .before .before .before .before .read-flow .last .1 .0))) (sym (sub-zero n)) in (
-      c .before .before .report-chart .ensures .0 ∙ ap (λ (x : List ℕ). roomFor x (length (c .before .before .before .before .before .before .before .before .before .before .before .before .before .before .before .args .out .now))) (sym is),
-      c .before .before .report-chart .ensures .1 ∙ ap (λ (x : List ℕ). atFrontIfRoom x (c .before .before .before .before .before .before .before .before .before .before .before .before .before .before .before .args .out .now)) (sym is),
+    let args = c .before .before .before .before .before .before .before .before .before .before .before .before .before .before .before .args in
+    let read-flow = c .before .before .before .before .before .before .before .before .before .before .before .read-flow in
+    let chart = c .before .before .before .before .before .before .before .before .chart in
+    let before = c .before .before .before .before .before .before .before .before in
+    let report-chart = c .before .before .report-chart in
+    let place = before in
+    let n = size (chart .given .0 .0) in
+    let is : textOf (args .input .now) ≡ chartReport (chart .given .0 .0) (take (n - 0) (read-flow .last .1 .0)) =
+    ap textOn (said place) ∙ ap (λ (k : ℕ). chartReport (chart .given .0 .0) (take k (read-flow .last .1 .0))) (sym (sub-zero n)) in (
+      report-chart .ensures .0 ∙ ap (λ (x : List ℕ). roomFor x (length (args .out .now))) (sym is),
+      report-chart .ensures .1 ∙ ap (λ (x : List ℕ). atFrontIfRoom x (args .out .now)) (sym is),
     )
 
 pub report-spec : {M : Type 1} → statement M

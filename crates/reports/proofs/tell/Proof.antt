@@ -21,8 +21,10 @@ text c first =
 
 measured : (c : tie.After-measure-chart) → c .measure-chart .result .len ≡ length (text (c .before .before .before .before .before) (firstIndex (c .before .before .before .before .before .args .chart)))
 measured c =
-    c .measure-chart .ensures .bytes (c .before .before .before .before .before .args .e .main) (c .before .before .before .before .before .args .e .dispersion)
-    ∙ ap (λ (k : ℕ). length (text (c .before .before .before .before .before) k)) (c .before .first-index .ensures .0)
+    let args = c .before .before .before .before .before .args in
+    let before = c .before .before .before .before .before in
+    c .measure-chart .ensures .bytes (args .e .main) (args .e .dispersion)
+    ∙ ap (λ (k : ℕ). length (text (before) k)) (c .before .first-index .ensures .0)
 
 first-index-requires : tie.Need-first-index-requires
 first-index-requires c κs = search needs
@@ -31,13 +33,21 @@ measure-chart-requires : tie.Need-measure-chart-requires
 measure-chart-requires c κs = search needs
 
 returns : tie.Need-returns
-returns c = too-short (text (c .before .before .before .before .before .before .before) (firstIndex (c .before .before .before .before .before .before .before .args .chart))) (c .before .before .before .before .before .before .before .args .out .now) (omega (arith, measured (c .before .before), c .if1 .taken))
+returns c =
+    let args = c .before .before .before .before .before .before .before .args in
+    let before = c .before .before .before .before .before .before .before in
+    too-short (text (before) (firstIndex (args .chart))) (args .out .now) (omega (arith, measured (c .before .before), c .if1 .taken))
 
 put-chart-requires : tie.Need-put-chart-requires
 put-chart-requires c κs =
-    let m = c .before .before .before .before .before .measure-chart .ensures in (
-      omega (arith, m .bytes (c .before .before .before .before .before .before .before .before .before .before .args .e .main) (c .before .before .before .before .before .before .before .before .before .before .args .e .dispersion), c .before .before .before .if1 .left),
-      (c .before .before .before .before .before .before .before .before .before .before .pre .0, (rw (c .before .before .before .before .before .before .first-index .ensures .0) (c .before .before .before .before .before .before .before .before .before .before .pre .1), m .number)),
+    let args = c .before .before .before .before .before .before .before .before .before .before .args in
+    let pre = c .before .before .before .before .before .before .before .before .before .before .pre in
+    let first-index = c .before .before .before .before .before .before .first-index in
+    let measure-chart = c .before .before .before .before .before .measure-chart in
+    let if1 = c .before .before .before .if1 in
+    let m = measure-chart .ensures in (
+      omega (arith, m .bytes (args .e .main) (args .e .dispersion), if1 .left),
+      (pre .0, (rw (first-index .ensures .0) (pre .1), m .number)),
     )
 
 same-length : tie.Need-same-length
@@ -45,11 +55,16 @@ same-length c = search needs
 
 returns-2 : tie.Need-returns-2
 returns-2 c =
-    let start = c .before .before .before .before .before .before .before .before .before .before .before .before .before in
-    let is = c .before .before .before .before .before .before .before .before .before .first-index .ensures .0 in
-    fits (text start (firstIndex (c .before .before .before .before .before .before .before .before .before .before .before .before .before .args .chart))) (c .before .before .before .before .before .before .before .before .before .before .before .before .before .args .out .now) (omega (arith, measured (c .before .before .before .before .before .before .before .before), c .before .before .before .before .before .before .if1 .left)) _ _
-    (c .before .before .put-chart .ensures .0 ∙ ap (λ (k : ℕ). length (text start k)) is)
-    (c .before .before .put-chart .ensures .1 ∙ ap (λ (k : ℕ). atFront (text start k) (c .before .before .before .before .before .before .before .before .before .before .before .before .before .args .out .now)) is)
+    let args = c .before .before .before .before .before .before .before .before .before .before .before .before .before .args in
+    let before = c .before .before .before .before .before .before .before .before .before .before .before .before .before in
+    let first-index = c .before .before .before .before .before .before .before .before .before .first-index in
+    let if1 = c .before .before .before .before .before .before .if1 in
+    let put-chart = c .before .before .put-chart in
+    let start = before in
+    let is = first-index .ensures .0 in
+    fits (text start (firstIndex (args .chart))) (args .out .now) (omega (arith, measured (c .before .before .before .before .before .before .before .before), if1 .left)) _ _
+    (put-chart .ensures .0 ∙ ap (λ (k : ℕ). length (text start k)) is)
+    (put-chart .ensures .1 ∙ ap (λ (k : ℕ). atFront (text start k) (args .out .now)) is)
 
 pub tell-spec : {M : Type 1} → statement M
 tell-spec =

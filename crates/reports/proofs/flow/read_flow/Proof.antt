@@ -29,22 +29,30 @@ read-values-requires c κs =
 
 returns-2 : tie.Need-returns-2
 unfolding flowOf
-returns-2 c = (
-  simp (le-ltb 24576 (length (c .before .before .before .before .before .before .before .args .s .now)) (c .before .before .before .before .if1 .left))
-      (c .before .before .before .read-head .ensures .0 ∙ ap (afterHead (c .before .before .before .before .before .before .before .args .s .now)) (c .before .why .given .1)),
-  tt,
-)
+returns-2 c =
+    let args = c .before .before .before .before .before .before .before .args in
+    let if1 = c .before .before .before .before .if1 in
+    let read-head = c .before .before .before .read-head in (
+      simp (le-ltb 24576 (length (args .s .now)) (if1 .left))
+          (read-head .ensures .0 ∙ ap (afterHead (args .s .now)) (c .before .why .given .1)),
+      tt,
+    )
 
 same-length : tie.Need-same-length
 same-length c = search needs
 
 returns-3 : tie.Need-returns-3
 unfolding flowOf
-returns-3 c = (
-  simp (le-ltb 24576 (length (c .before .before .before .before .before .before .before .before .before .before .before .args .s .now)) (c .before .before .before .before .before .before .before .before .if1 .left))
-      (c .before .before .before .before .before .before .before .read-head .ensures .0 ∙ ap (afterHead (c .before .before .before .before .before .before .before .before .before .before .before .args .s .now)) (c .before .before .before .before .before .chart .given .1) ∙ c .before .before .read-values .ensures .0),
-  c .before .before .read-values .ensures .1,
-)
+returns-3 c =
+    let args = c .before .before .before .before .before .before .before .before .before .before .before .args in
+    let if1 = c .before .before .before .before .before .before .before .before .if1 in
+    let read-head = c .before .before .before .before .before .before .before .read-head in
+    let chart = c .before .before .before .before .before .chart in
+    let read-values = c .before .before .read-values in (
+      simp (le-ltb 24576 (length (args .s .now)) (if1 .left))
+          (read-head .ensures .0 ∙ ap (afterHead (args .s .now)) (chart .given .1) ∙ read-values .ensures .0),
+      read-values .ensures .1,
+    )
 
 pub read-flow-spec : {M : Type 1} → statement M
 read-flow-spec =

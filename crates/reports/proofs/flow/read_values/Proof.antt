@@ -54,7 +54,10 @@ mul-values c =
 
 slice-write-values : tie.Need-slice-write-values Inv-loop μ-loop
 slice-write-values c =
-    omega (arith, c .before .before .before .before .before .before .loop .inv .same, c .before .before .before .before .before .loop-test .taken, c .before .before .before .before .before .before .before .before .before .before .pre .0)
+    let pre = c .before .before .before .before .before .before .before .before .before .before .pre in
+    let loop = c .before .before .before .before .before .before .loop in
+    let loop-test = c .before .before .before .before .before .loop-test in
+    omega (arith, loop .inv .same, loop-test .taken, pre .0)
 
 add-i : tie.Need-add-i Inv-loop μ-loop
 add-i c = omega arith
@@ -64,11 +67,15 @@ loop-less c = omega arith
 
 loop-again : tie.Need-loop-again Inv-loop μ-loop
 loop-again c =
+    let pre = c .before .before .before .before .before .before .before .before .before .before .pre in
+    let loop-test = c .before .before .before .before .before .loop-test in
+    let read-number = c .before .before .before .before .read-number in
+    let value = c .before .before .value in
     let args = c .before .before .before .before .before .before .before .before .before .before .args in
     let loop = c .before .before .before .before .before .before .loop in
     rw (c .of-bits .ensures)
     (reads-goes-on (args .s .now) (args .chart) (size (args .chart)) (args .from) (args .values .now) (loop .values) (loop .at) (loop .i) (loop .inv)
-    (c .before .before .before .before .before .loop-test .taken) _ _ (sym (c .before .before .before .before .read-number .ensures) ∙ c .before .before .value .given .1) (c .before .before .before .before .before .before .before .before .before .before .pre .0))
+    (loop-test .taken) _ _ (sym (read-number .ensures) ∙ value .given .1) (pre .0))
 
 same-length-2 : tie.Need-same-length-2 Inv-loop μ-loop
 same-length-2 c =

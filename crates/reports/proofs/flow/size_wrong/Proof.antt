@@ -17,13 +17,17 @@ enum-told-2 c = search needs
 
 returns : tie.Need-returns
 returns c =
+    let pre = c .before .before .before .pre in
+    let new = c .before .before .new in
     let args = c .before .before .before .args in
-    size-taken (args .kind) (args .size) (c .before .before .before .pre) _ (sym (ap (changed noChart) (c .enum-told .given .1)) ∙ c .before .before .new .ensures)
+    size-taken (args .kind) (args .size) (pre) _ (sym (ap (changed noChart) (c .enum-told .given .1)) ∙ new .ensures)
 
 returns-2 : tie.Need-returns-2
 returns-2 c =
+    let pre = c .before .before .before .pre in
+    let new = c .before .before .new in
     let args = c .before .before .before .args in
-    size-refused (args .kind) (args .size) (c .before .before .before .pre) (c .enum-told2 .given .0 .0) (sym (ap (changed noChart) (c .enum-told2 .given .1)) ∙ c .before .before .new .ensures)
+    size-refused (args .kind) (args .size) (pre) (c .enum-told2 .given .0 .0) (sym (ap (changed noChart) (c .enum-told2 .given .1)) ∙ new .ensures)
 
 pub size-wrong-spec : {M : Type 1} → statement M
 size-wrong-spec = tie.close (tie.spec new-requires enum-told enum-told-2 returns returns-2)
