@@ -46,6 +46,8 @@ impl ChartCase {
 pub enum Case {
     Marks(MarksCase),
     Chart(ChartCase),
+    /// The bytes that the report program is given: a flow file, or none.
+    Flow(Vec<u8>),
 }
 
 /// Everything that is answered for a chart that can be evaluated.
@@ -69,4 +71,6 @@ pub enum Answer {
     /// 01's number 7 or 8.
     Refused(u8),
     Evaluated(Evaluation),
+    /// The report's text.
+    Report(Vec<u8>),
 }

@@ -20,6 +20,10 @@ fn difference(case: &Case, stored: &Answer) -> Option<String> {
     let right = judge::answer(case);
     match (case, stored, &right) {
         (Case::Marks(c), Answer::Marks(s), Answer::Marks(r)) => marks_difference(c, s, r),
+        (Case::Flow(_), Answer::Report(s), Answer::Report(r)) => {
+            let told = part_difference("line", &lines(s), &lines(r))?;
+            Some(format!("{told}; input: {}", show::case(case, SHOWN)))
+        }
         (_, Answer::Evaluated(s), Answer::Evaluated(r)) => {
             let told = evaluation_difference(s, r)?;
             Some(format!("{told}; input: {}", show::case(case, SHOWN)))
@@ -29,6 +33,11 @@ fn difference(case: &Case, stored: &Answer) -> Option<String> {
             (s != r).then(|| format!("answer: stored {s}, Rust {r}; input: {}", show::case(case, SHOWN)))
         }
     }
+}
+
+/// The lines of a text, each with what ends it.
+fn lines(text: &[u8]) -> Vec<String> {
+    text.split_inclusive(|&b| b == b'\n').map(|l| String::from_utf8_lossy(l).into_owned()).collect()
 }
 
 fn number(answer: &Answer) -> u8 {

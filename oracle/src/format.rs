@@ -7,6 +7,7 @@ const FORMAT: u64 = 1;
 const END: u64 = 0;
 const MARKS: u64 = 1;
 const CHART: u64 = 2;
+const FLOW: u64 = 3;
 
 /// More groups than this hold more than 64 bits.
 const MOST_GROUPS: usize = 10;
@@ -94,7 +95,17 @@ fn put_case(out: &mut Vec<u8>, case: &Case) {
             put(out, c.count() as u64);
             put_floats(out, &c.values);
         }
+        Case::Flow(bytes) => {
+            put(out, FLOW);
+            put_bytes(out, bytes);
+        }
     }
+}
+
+/// Bytes as they are, led by how many they are.
+fn put_bytes(out: &mut Vec<u8>, bytes: &[u8]) {
+    put(out, bytes.len() as u64);
+    out.extend(bytes);
 }
 
 fn put_answer(out: &mut Vec<u8>, answer: &Answer) {
@@ -105,6 +116,7 @@ fn put_answer(out: &mut Vec<u8>, answer: &Answer) {
             put(out, 0);
             put_evaluation(out, e);
         }
+        Answer::Report(text) => put_bytes(out, text),
     }
 }
 
@@ -148,10 +160,11 @@ pub fn read(bytes: &[u8]) -> Result<Vec<Judged>, Fault> {
     let stated = r.number("number of cases")?;
     let mut list = Vec::new();
     loop {
-        match r.number_within(END, CHART, "tag")? {
+        match r.number_within(END, FLOW, "tag")? {
             END => break,
             MARKS => list.push(r.marks_case()?),
-            _ => list.push(r.chart_case()?),
+            CHART => list.push(r.chart_case()?),
+            _ => list.push(r.flow_case()?),
         }
     }
     if list.len() as u64 != stated {
@@ -164,9 +177,9 @@ pub fn read(bytes: &[u8]) -> Result<Vec<Judged>, Fault> {
     Ok(list)
 }
 
-struct Reader<'a> {
-    bytes: &'a [u8],
-    at: usize,
+pub struct Reader<'a> {
+    pub bytes: &'a [u8],
+    pub at: usize,
 }
 
 impl Reader<'_> {
@@ -174,7 +187,7 @@ impl Reader<'_> {
         Err(Fault { at, why })
     }
 
-    fn number(&mut self, what: &str) -> Result<u64, Fault> {
+    pub fn number(&mut self, what: &str) -> Result<u64, Fault> {
         let start = self.at;
         let mut number: u64 = 0;
         for group in 0..MOST_GROUPS {
@@ -256,6 +269,22 @@ impl Reader<'_> {
         let answer = self.chart_answer(count)?;
         let kind = kind as u8;
         Ok((Case::Chart(ChartCase { kind, size, set, values }), answer))
+    }
+
+    fn flow_case(&mut self) -> Result<Judged, Fault> {
+        let flow = self.raw("flow file")?;
+        let text = self.raw("report")?;
+        Ok((Case::Flow(flow), Answer::Report(text)))
+    }
+
+    fn raw(&mut self, what: &str) -> Result<Vec<u8>, Fault> {
+        let start = self.at;
+        let n = self.number_within(0, MOST_BYTES as u64, "number of bytes")? as usize;
+        let Some(bytes) = self.bytes.get(self.at..self.at + n) else {
+            return self.fault(start, format!("the bytes end inside {what}"));
+        };
+        self.at += n;
+        Ok(bytes.to_vec())
     }
 
     fn chart_answer(&mut self, count: usize) -> Result<Answer, Fault> {

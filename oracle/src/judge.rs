@@ -1,7 +1,7 @@
 //! Puts a case to the published Rust and takes down what it says.
 
 use crate::case::{Answer, Case, ChartCase, Evaluation, Limits, MarksCase};
-use crate::scope;
+use crate::{report, scope};
 use u_analytics::spc::chart::{ChartPoint, ControlChart, ControlLimits, ViolationType};
 use u_analytics::spc::rules::{RuleSet, RunRule};
 use u_analytics::spc::variables::{IndividualMRChart, XBarRChart, XBarSChart};
@@ -10,6 +10,7 @@ pub fn answer(case: &Case) -> Answer {
     match case {
         Case::Marks(c) => Answer::Marks(marks(c)),
         Case::Chart(c) => chart(c),
+        Case::Flow(bytes) => Answer::Report(report::text(bytes)),
     }
 }
 
@@ -38,7 +39,7 @@ pub fn marks(case: &MarksCase) -> Vec<u16> {
 
 /// The set is named last: the Rust evaluates everything afresh at each sample, and with no test
 /// asked for that costs least. `the_set_may_be_named_first` of the tests shows that it is the same.
-fn chart(case: &ChartCase) -> Answer {
+pub fn chart(case: &ChartCase) -> Answer {
     let (none, set) = (RuleSet::none(), rule_set(case.set));
     match case.kind {
         1 => {

@@ -8,11 +8,14 @@ mod check;
 mod format;
 mod judge;
 mod random;
+mod report;
 mod scope;
+mod sheet;
 mod show;
 mod smaller;
 #[cfg(test)]
 mod tests;
+mod trials;
 
 use case::Case;
 use cases::Part;
@@ -20,8 +23,9 @@ use format::Judged;
 use std::io::{Read, Write};
 use std::process::ExitCode;
 
-const USAGE: &str = "usage: oracle list PART | fresh PART COUNT SEED PREFIX | check | pick K | smaller | show
-PART is marks or charts; check, pick, smaller and show read a list from standard input.
+const USAGE: &str =
+    "usage: oracle list PART | fresh PART COUNT SEED PREFIX | check | pick K | smaller | show | sheets | report
+PART is marks, charts or reports; check, pick, smaller and show read a list from standard input, report a flow file.
 fresh writes PREFIX0, PREFIX1, ..";
 
 fn main() -> ExitCode {
@@ -56,6 +60,11 @@ fn run(words: &[&str]) -> Result<ExitCode, String> {
             }
             Ok(ExitCode::SUCCESS)
         }
+        ["report"] => put(&report::text(&get_bytes()?)),
+        ["sheets"] => {
+            println!("{}", trials::line());
+            Ok(ExitCode::SUCCESS)
+        }
         _ => Err(USAGE.to_string()),
     }
 }
@@ -68,10 +77,14 @@ fn number(word: &str) -> Result<u64, String> {
     word.parse().map_err(|_| format!("{word} is no number"))
 }
 
-fn get_list() -> Result<Vec<Judged>, String> {
+fn get_bytes() -> Result<Vec<u8>, String> {
     let mut bytes = Vec::new();
     std::io::stdin().read_to_end(&mut bytes).map_err(|e| e.to_string())?;
-    format::read(&bytes).map_err(|fault| format!("no list: at byte {}, {}", fault.at, fault.why))
+    Ok(bytes)
+}
+
+fn get_list() -> Result<Vec<Judged>, String> {
+    format::read(&get_bytes()?).map_err(|fault| format!("no list: at byte {}, {}", fault.at, fault.why))
 }
 
 /// The cases with the Rust's answers.

@@ -7,6 +7,7 @@ pub fn case(case: &Case, most: usize) -> String {
     match case {
         Case::Marks(c) => marks_case(c, most),
         Case::Chart(c) => chart_case(c, most),
+        Case::Flow(bytes) => flow_file(bytes, most),
     }
 }
 
@@ -23,6 +24,12 @@ pub fn marks_case(c: &MarksCase, most: usize) -> String {
 
 fn chart_case(c: &ChartCase, most: usize) -> String {
     format!("kind {}, size {}, set {}, {}", c.kind, c.size, c.set, values(&c.values, most))
+}
+
+fn flow_file(bytes: &[u8], most: usize) -> String {
+    let shown: Vec<String> = bytes.iter().take(most).map(|b| format!("{b:02x}")).collect();
+    let rest = if bytes.len() > most { " .." } else { "" };
+    format!("{} bytes [{}{rest}]", bytes.len(), shown.join(" "))
 }
 
 fn values(all: &[f64], most: usize) -> String {

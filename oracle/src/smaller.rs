@@ -2,6 +2,7 @@
 //! The boldest come first, so that the first that still differs is the best to go on from.
 
 use crate::case::{Case, ChartCase, MarksCase};
+use crate::report;
 
 pub fn of(case: &Case) -> Vec<Case> {
     match case {
@@ -15,7 +16,26 @@ pub fn of(case: &Case) -> Vec<Case> {
             let easier = smaller_sets(c.set).into_iter().map(|set| ChartCase { set, ..c.clone() });
             fewer.chain(easier).map(Case::Chart).collect()
         }
+        Case::Flow(bytes) => smaller_flows(bytes),
     }
+}
+
+/// Fewer values and tests where the bytes are a flow file, and the bytes without some at their end.
+fn smaller_flows(bytes: &[u8]) -> Vec<Case> {
+    let mut found = Vec::new();
+    if let Ok(chart) = report::read(bytes) {
+        let easier = of(&Case::Chart(chart)).into_iter();
+        found.extend(easier.filter_map(|case| match case {
+            Case::Chart(c) => Some(Case::Flow(report::flow_file(&c))),
+            _ => None,
+        }));
+    }
+    let mut dropped = bytes.len().div_ceil(2);
+    while dropped > 0 {
+        found.push(Case::Flow(bytes[..bytes.len() - dropped].to_vec()));
+        dropped /= 2;
+    }
+    found
 }
 
 /// The values without their last or first half, quarter, .. down to one sample of `size`.

@@ -2,7 +2,7 @@
 
 use crate::case::{Answer, Case, ChartCase, Evaluation, Limits, MarksCase};
 use crate::cases::{self, Part};
-use crate::{by_01, check, format, judge, smaller};
+use crate::{by_01, check, format, judge, report, smaller};
 use u_analytics::spc::rules::RuleSet;
 use u_analytics::spc::variables::{IndividualMRChart, XBarRChart, XBarSChart};
 
@@ -276,13 +276,14 @@ fn a_number_out_of_place_is_refused() {
     };
     assert_eq!(changed(0, 2), (0, "format number is 2, not 1 to 1".into()));
     assert_eq!(changed(1, 2), (1, "2 cases are stated, 1 stand there".into()));
-    assert_eq!(changed(2, 3), (2, "tag is 3, not 0 to 2".into()));
+    assert_eq!(changed(2, 4), (2, "tag is 4, not 0 to 3".into()));
     let more = [&whole[..], &[0, 0]].concat();
     assert_eq!(fault_of(&more), (whole.len(), "2 bytes are left over".into()));
     assert_eq!(fault_of(&[1, 1, 2, 4]), (3, "kind is 4, not 1 to 3".into()));
     assert_eq!(fault_of(&[1, 1, 2, 2, 26]), (4, "size is 26, not 2 to 25".into()));
     assert_eq!(fault_of(&[1, 1, 2, 1, 1, 0x80, 0x04]), (5, "set is 512, not 0 to 511".into()));
     assert_eq!(fault_of(&[1, 1, 2, 1, 1, 1, 0, 9]), (7, "answer is 9, not 0, 7 or 8".into()));
+    assert_eq!(fault_of(&[1, 1, 3, 2, 0]), (3, "the bytes end inside flow file".into()));
 }
 
 #[test]
@@ -309,8 +310,61 @@ fn smaller_cases_are_smaller() {
     let size = |case: &Case| match case {
         Case::Marks(c) => (c.values.len(), c.set.count_ones()),
         Case::Chart(c) => (c.count(), c.set.count_ones()),
+        Case::Flow(bytes) => (bytes.len(), tests_of(bytes)),
     };
-    for case in cases::fresh(Part::Marks, 50, 1).iter().chain(&cases::fresh(Part::Charts, 50, 1)) {
-        assert!(smaller::of(case).iter().all(|s| size(s) < size(case)));
+    for part in [Part::Marks, Part::Charts, Part::Reports] {
+        for case in cases::fresh(part, 50, 1) {
+            assert!(smaller::of(&case).iter().all(|s| size(s) < size(&case)));
+        }
+    }
+}
+
+/// How many tests the set of a flow file has; none where the bytes are no flow file.
+fn tests_of(bytes: &[u8]) -> u32 {
+    report::read(bytes).map_or(0, |case| case.set.count_ones())
+}
+
+// ---- reports ---------------------------------------------------------------
+
+fn report_of(bytes: &[u8]) -> String {
+    String::from_utf8(report::text(bytes)).expect("a report is text")
+}
+
+#[test]
+fn the_worked_report() {
+    let mut bytes = vec![0x01, 0x01, 0x40, 0x10];
+    for _ in 0..16 {
+        bytes.extend([0x80, 0x80, 0x80, 0x80, 0x80, 0x80, 0x80, 0x90, 0x40]);
+    }
+    let text = "C 1 1 64
+L 0 4020000000000000 4020000000000000 4020000000000000
+L 1 0000000000000000 0000000000000000 0000000000000000
+V 0 14 6
+V 0 15 6
+V 1 15 6
+E 3
+";
+    assert_eq!(report_of(&bytes), text);
+}
+
+#[test]
+fn a_header_number_is_judged_before_the_next_is_read() {
+    assert_eq!(report_of(&[1, 2]), "R 1\n");
+    assert_eq!(report_of(&[4]), "R 12\n");
+    assert_eq!(report_of(&[1, 1, 0x80, 0x04]), "R 4\n");
+    assert_eq!(report_of(&[1, 1, 1, 0x81, 0x10]), "R 5\n");
+    assert_eq!(report_of(&[1, 1, 1]), "R 12\n");
+}
+
+#[test]
+fn the_stored_reports_have_every_refusal_and_every_kind() {
+    let texts: Vec<String> = (cases::list(Part::Reports).iter())
+        .map(|case| match case {
+            Case::Flow(bytes) => report_of(bytes),
+            _ => unreachable!("a list of flow files"),
+        })
+        .collect();
+    for line in ["R 1", "R 3", "R 4", "R 5", "R 7", "R 8", "R 12", "C 1 1 ", "C 2 25 ", "C 3 2 "] {
+        assert!(texts.iter().any(|t| t.starts_with(line)), "no stored report begins with {line}");
     }
 }

@@ -1,12 +1,11 @@
--- Rows 9 and 14 of 01's table, its three observations of 0.1, and a refusal 8 and a 7, computed. Floats are compared by their bits.
+-- 01's three observations of 0.1, and a refusal 8 and a 7, computed. Floats are compared by their bits.
 -- Assumes nothing.
 use mathlib.Core.Path.{_≡_, refl}
 use mathlib.Core.Bool.{Bool, true, not, _&&_}
 use mathlib.Core.List.{List, [], _∷_}
 use Prim.Native.Nat.{ℕ}
 use lib.Dec.{eqb}
-use lib.Ieee.{Float, nan, binary64, ofBits, toBits, ofInt, round, add, sub, mul, div, lt, le}
-use lib.ListN.{getD}
+use lib.Ieee.{Float, binary64, ofBits, toBits, ofInt, round, add, sub, mul, div, lt, le}
 use Rattle.laws.specs.Bools.{every, count}
 use Rattle.laws.specs.Bits.{hasBit, fromBits}
 use Rattle.laws.specs.Lists.{tabulateFrom}
@@ -20,31 +19,11 @@ use Rattle.rules.specs.Marking.{newestFirst, stands, marksAt, marksOf}
 use Rattle.charts.specs.declared.Chart.{Chart}
 use Rattle.charts.specs.Arith.{meanOf, signCleared, movingOf}
 use Rattle.charts.specs.Factors.{decimal, factorOf}
-use Rattle.charts.specs.Records.{byKind, sizeWrong, ownWrong, recordWrong, noChart, newOf}
+use Rattle.charts.specs.Records.{byKind, sizeWrong, ownWrong, recordWrong}
 use Rattle.charts.specs.Series.{bySeries, individualAt, pointAt, pointsIn, seriesOf}
 use Rattle.charts.specs.Limits.{factorFor, mainLimits, lowerLimit, dispersionLimits, limitsFrom, measuredOf, measured}
 use Rattle.charts.specs.Evaluating.{Answer, answerRefused, tooFew, noRoom, seriesMarks, numberOf, answerFor, evaluateOf}
 use Rattle.charts.specs.Sigma.{sigmaNumber, unlessRefused, sigmaFrom, sigmaHatOf, dfOf}
-
--- ---- row 9: "Kinds 2 and 3: sizes 1 and 26 refused, 2 and 25 taken."
-
--- the number of a new chart
-abbrev pub made : ℕ → ℕ → ℕ
-made kind size = newOf kind size .0
-
-pub row-9 : (made 2 1 ∷ made 2 26 ∷ made 2 2 ∷ made 2 25 ∷ made 3 1 ∷ made 3 26 ∷ made 3 2 ∷ made 3 25 ∷ []) ≡ (1 ∷ 1 ∷ 0 ∷ 0 ∷ 1 ∷ 1 ∷ 0 ∷ 0 ∷ [])
-unfolding newOf firstOf sizeWrong byKind
-row-9 = refl
-
-pub new-refused : newOf 2 1 ≡ (1, noChart)
-unfolding newOf firstOf sizeWrong byKind
-new-refused = refl
-
-pub new-taken : newOf 3 25 ≡ (0, record { kind = 3; size = 25; count = 0; set = record { mask = 1 } })
-unfolding newOf firstOf sizeWrong byKind
-new-taken = refl
-
--- ---- row 14: "+0.0 then -0.0: moving range +0.0."
 
 abbrev pub bits : Float → ℕ
 bits x = toBits binary64 x
@@ -52,13 +31,6 @@ bits x = toBits binary64 x
 -- individuals, n observations, set shewhart
 abbrev pub individuals : ℕ → Chart
 individuals n = record { kind = 1; size = 1; count = n; set = record { mask = 1 } }
-
-abbrev pub zeros : List Float
-zeros = ofBits binary64 0 ∷ ofBits binary64 0x8000000000000000 ∷ []
-
-pub row-14 : eqb (bits (getD (seriesOf (individuals 2) 1 zeros) 0 nan)) 0 ≡ true
-unfolding seriesOf tabulateFrom pointAt pointsIn byKind bySeries individualAt movingOf signCleared ofBits toBits sub
-row-14 = refl
 
 -- ---- "three observations of 0.1 have the mean 0.10000000000000002 here, range 0, and all three get bit 0"
 

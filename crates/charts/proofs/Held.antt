@@ -25,7 +25,7 @@ unfolding sizeWrong
 single-size kind size h e =
     eqb-true size 1 (not-false (eqb size 1) (sym (kind-1 kind (not (eqb size 1)) (subgroupWrong size) (subgroupWrong size) e) ∙ h))
 
-size-bounds : (kind size : ℕ) → sizeWrong kind size ≡ false → (1 ≤ size) × (size ≤ 25)
+pub size-bounds : (kind size : ℕ) → sizeWrong kind size ≡ false → (1 ≤ size) × (size ≤ 25)
 size-bounds kind size h = by (ℕ-discrete kind 1)
   where
     by : Dec (kind ≡ 1) → (1 ≤ size) × (size ≤ 25)

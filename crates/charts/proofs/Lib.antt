@@ -2,11 +2,11 @@
 pub mod Answers
 mod Folds
 mod Signs
-mod Cases
-mod Held
-mod Points
+pub mod Cases
+pub mod Held
+pub mod Points
 mod Appending
 mod Counting
-mod Outcomes
+pub mod Outcomes
 mod Surveys
 pub mod Examples

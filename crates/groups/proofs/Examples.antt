@@ -1,13 +1,8 @@
--- Worked examples, computed: row 12 of 01's table, the number of its flow file (8.0 as bits), and the ends of 64 bits. Assumes nothing.
-use Prim.Native.Nat.{ℕ}
+-- Worked examples, computed: the number of 01's flow file (8.0 as bits), and the ends of 64 bits. Assumes nothing.
 use mathlib.Core.Path.{_≡_, refl}
 use mathlib.Core.List.{[], _∷_}
 use Rattle.groups.specs.declared.Reading.the-variants.{Number, Fault}
 use Rattle.groups.specs.Groups.{groups, numberAt}
-
-row-12 : (groups 127 ≡ 0x7f ∷ []) × (groups 128 ≡ 0x80 ∷ 0x01 ∷ []) × (numberAt (0x80 ∷ 0x00 ∷ []) 0 ≡ Fault 0)
-unfolding groups numberAt
-row-12 = (refl, refl, refl)
 
 eight : groups 0x4020000000000000 ≡ 0x80 ∷ 0x80 ∷ 0x80 ∷ 0x80 ∷ 0x80 ∷ 0x80 ∷ 0x80 ∷ 0x90 ∷ 0x40 ∷ []
 unfolding groups

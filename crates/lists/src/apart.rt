@@ -55,6 +55,33 @@ pub fn marks_apart(ours: &[u16], right: &[u16]) -> Apart
     Apart::Nowhere
 }
 
+fn wide_byte(b: u8) -> u64
+    ensures { λ r. ⌜ r ≡ b ⌝ }
+{
+    b as u64
+}
+
+/// Holds our bytes to the right ones.
+pub fn bytes_apart(ours: &[u8], right: &[u8]) -> Apart
+    requires { ⌜ length (now ours) ≡ length (now right) ⌝ }
+    ensures { λ r. ⌜ Compared (now (ours .entry)) (now (right .entry)) r ⌝ }
+{
+    let mut i = 0;
+    while i < ours.len() {
+        let is = wide_byte(ours[i]);
+        let ought = wide_byte(right[i]);
+        if is != ought {
+            return Apart::At(Parting {
+                at: i,
+                ours: is,
+                right: ought,
+            });
+        }
+        i += 1;
+    }
+    Apart::Nowhere
+}
+
 /// Holds our f64 to the right ones, by their bits.
 pub fn floats_apart(ours: &[f64], right: &[f64]) -> Apart
     requires { ⌜ length (now ours) ≡ length (now right) ⌝ }

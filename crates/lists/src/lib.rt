@@ -6,6 +6,7 @@ mod words;
 pub use apart::Apart;
 pub use apart::Parting;
 pub use apart::bits;
+pub use apart::bytes_apart;
 pub use apart::floats_apart;
 pub use apart::marks_apart;
 use groups::Reading;
@@ -14,7 +15,8 @@ pub use words::put;
 pub use words::say;
 pub use words::say_bits;
 pub use words::totals;
-ghost use Rattle.lists.specs.Taken.{AtMost};
+ghost use lib.ListN.{length};
+ghost use Rattle.lists.specs.Taken.{AtMost, Within};
 
 /// Bytes of the longest list.
 pub const MOST_BYTES: usize = 400_000;
@@ -41,6 +43,8 @@ pub enum Item {
     AllMarks,
     NoneStands,
     Figure,
+    Flow,
+    Text,
     End,
 }
 
@@ -102,6 +106,18 @@ pub enum Small {
 /// What reading an f64 finds.
 pub enum Float {
     Read(Real),
+    Fault(Fault),
+}
+
+/// Where bytes that stand as they are begin, and the place just past them.
+pub struct Stretch {
+    pub from: usize,
+    pub to: usize,
+}
+
+/// What reading bytes that stand as they are finds.
+pub enum Bytes {
+    Read(Stretch),
     Fault(Fault),
 }
 
@@ -249,6 +265,33 @@ pub fn read_marks(list: &[u8], at: usize, out: &mut [u16]) -> Passed {
         i += 1;
     }
     Passed::Next(next_at)
+}
+
+/// Reads how many bytes there are at the place `at`, and passes over these.
+pub fn read_bytes(list: &[u8], at: usize, item: Item) -> Bytes
+    ensures { λ r. ⌜ Within (length (now (list .entry))) r ⌝ }
+{
+    match read_number(list, at, item) {
+        Number::Read(read) => {
+            let from = read.next;
+            let cut = Fault {
+                at,
+                item,
+                why: Why::Cut,
+            };
+            if list.len() < from {
+                return Bytes::Fault(cut);
+            }
+            if ((list.len() - from) as u64) < read.value {
+                return Bytes::Fault(cut);
+            }
+            Bytes::Read(Stretch {
+                from: from,
+                to: from + read.value as usize,
+            })
+        }
+        Number::Fault(fault) => Bytes::Fault(fault),
+    }
 }
 
 /// Reads what stands before the first case, and gives the number of cases.

@@ -49,6 +49,8 @@ fn put_item(item: Item) {
         Item::AllMarks => put(b"number of marks"),
         Item::NoneStands => put(b"whether none stands"),
         Item::Figure => put(b"sigma figure"),
+        Item::Flow => put(b"flow file"),
+        Item::Text => put(b"report"),
         Item::End => put(b"end"),
     }
 }

@@ -1,9 +1,12 @@
--- For each public call: any two results that its promise allows for the same inputs coincide.
+-- For each public call: any two results that its promise allows for the same inputs coincide. And 01's table, proved as one.
 pub mod Coincide
+mod Floats
 mod Groups
 mod Root
 mod Sets
 mod Rules
 mod Charts
 mod Sheets
+mod Reports
 mod Twin
+mod Table

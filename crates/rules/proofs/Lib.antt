@@ -10,4 +10,3 @@ pub mod Meaning
 pub mod Answers
 mod Behind
 mod Spans
-mod Examples

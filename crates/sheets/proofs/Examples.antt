@@ -1,33 +1,14 @@
--- Rows 10, 11 and 12 of 01's table, and form faults at their places, computed. Assumes nothing.
+-- What the checker makes of the sheet of 01's row 10, and form faults at their places, computed. Assumes nothing.
 use Prim.Native.Nat.{ℕ}
-use lib.IntN.{pos, negsuc}
-use mathlib.Core.Path.{_≡_, refl, ap, _∙_}
-use mathlib.Core.Bool.{false}
+use mathlib.Core.Path.{_≡_, refl}
 use mathlib.Core.List.{List, [], _∷_, _++_}
-use lib.Ieee.{Float, fin, add, sub, mul, div, round, lt, le}
-use lib.ListN.{take, replicate}
-use Rattle.laws.specs.Bools.{every, count}
-use Rattle.laws.specs.Bits.{hasBit, fromBits}
-use Rattle.laws.specs.Lists.{tabulateFrom}
+use lib.ListN.{take}
 use Rattle.laws.specs.Refusals.{firstOf}
-use Rattle.groups.specs.Groups.{groups, numberAt}
-use Rattle.sets.specs.Sets.{bitOf, tests, has, setOf}
-use Rattle.rules.specs.declared.Limits.{Limits}
-use Rattle.rules.specs.Lines.{oneSigma, twoSigma, linesOf}
-use Rattle.rules.specs.Tests.{steps, alternating, window, shows}
-use Rattle.rules.specs.Marking.{newestFirst, stands, marksAt, marksOf}
-use Rattle.sheets.specs.Sheet.{marked, entriesOf, sheetOf}
+use Rattle.groups.specs.Groups.{numberAt}
 use Rattle.sheets.specs.Said.{fault, said, entries, saidFrom}
-use Rattle.sheets.specs.Answers.{firstWrong, judged, seriesSheet}
+use Rattle.sheets.specs.Answers.{firstWrong, judged}
 
--- 28, 25, 22
-abbrev limits : Limits
-limits = record { ucl = fin false 7 (pos 2); cl = fin false 25 (pos 0); lcl = fin false 11 (pos 1) }
-
--- ---- row 10: ten 26.5, nelson
-
-abbrev tenValues : List Float
-tenValues = replicate 10 (fin false 53 (negsuc 0))
+-- ---- the sheet of row 10: ten points, nelson
 
 abbrev tenMarks : List ℕ
 tenMarks = 0 ∷ 0 ∷ 0 ∷ 0 ∷ 32 ∷ 32 ∷ 32 ∷ 160 ∷ 162 ∷ 162 ∷ []
@@ -36,18 +17,6 @@ abbrev ten : List ℕ
 ten =
     0x0a ∷ 0xff ∷ 0x01 ∷ 0x06 ∷ 0x04 ∷ 0x20 ∷ 0x00 ∷ 0x20 ∷ 0x00 ∷ 0x20
     ∷ 0x00 ∷ 0xa0 ∷ 0x01 ∷ 0x00 ∷ 0xa2 ∷ 0x01 ∷ 0x00 ∷ 0xa2 ∷ 0x01 ∷ []
-
-ten-marks : marksOf limits 255 tenValues ≡ tenMarks
-unfolding marksOf tabulateFrom marksAt setOf fromBits has hasBit tests bitOf stands newestFirst window shows every count steps alternating linesOf oneSigma twoSigma add sub mul div round lt le
-ten-marks = refl
-
-ten-sheet : sheetOf 255 tenMarks ≡ ten
-unfolding sheetOf marked count entriesOf groups
-ten-sheet = refl
-
-row-10 : seriesSheet limits 255 tenValues ≡ ten
-unfolding seriesSheet
-row-10 = ap (sheetOf 255) ten-marks ∙ ten-sheet
 
 ten-accepted : judged 255 tenMarks (said ten) ≡ (0, 0, 0, 0)
 unfolding firstOf firstWrong saidFrom entries numberAt
@@ -59,18 +28,6 @@ ten-refused : (judged 511 tenMarks (said ten) ≡ (10, 0, 0, 0))
     × (judged 255 (0 ∷ 0 ∷ 0 ∷ 0 ∷ 32 ∷ 32 ∷ 32 ∷ 160 ∷ 2 ∷ 162 ∷ []) (said ten) ≡ (11, 8, 2, 162))
 unfolding firstOf firstWrong saidFrom entries numberAt
 ten-refused = (refl, refl, refl)
-
--- ---- row 11: no points, shewhart
-
-row-11 : seriesSheet limits 1 [] ≡ 0x00 ∷ 0x01 ∷ 0x00 ∷ []
-unfolding seriesSheet marksOf tabulateFrom sheetOf marked count entriesOf groups
-row-11 = refl
-
--- ---- row 12
-
-row-12 : (groups 127 ≡ 0x7f ∷ []) × (groups 128 ≡ 0x80 ∷ 0x01 ∷ []) × (said (0x80 ∷ 0x00 ∷ 0x01 ∷ 0x00 ∷ []) ≡ fault 0)
-unfolding groups saidFrom numberAt
-row-12 = (refl, refl, refl)
 
 -- ---- form faults
 

@@ -1,6 +1,6 @@
 // Runs the sheet's writer and checker: 01's rows 10 and 11; a hundred sheets, each accepted, and refused with any one byte
-// changed, cut at any place, or with any byte more, the last two at the right place; and the longest sheet. Writes how
-// often the checker gave each answer.
+// changed, cut at any place, or with any byte more; and the longest sheet. Writes how often the checker gave each number,
+// and one number that all answers come to, with their places and marks: `oracle/sheets` works it out from 01 by itself.
 use libc::STDOUT_FILENO;
 use rules::Limits;
 use sets::RuleSet;
@@ -17,26 +17,33 @@ fn limits() -> Limits {
     }
 }
 
-// Where wrong answers are counted: no answer of the checker has this number.
-const ELSEWHERE: usize = 1;
+// Where the answers are folded into one number: no answer of the checker has this number.
+const ALL: usize = 1;
 
-// Counts an answer of the checker by its number.
+// Takes a number into another, so that every number taken in tells.
+fn fold(all: u64, x: u64) -> u64 {
+    (all % 4_294_967_291 * 31 + x % 4_294_967_291) % 4_294_967_291
+}
+
+// Takes an answer in: 01's number, the place or position, the right marks, the stated marks.
+fn fold_answer(all: u64, answer: Checked) -> u64 {
+    let number = fold(all, answer.number() as u64);
+    match answer {
+        Checked::Form { at } => fold(fold(fold(number, at as u64), 0), 0),
+        Checked::Wrong { at, right, stated } => {
+            fold(fold(fold(number, at as u64), right as u64), stated as u64)
+        }
+        _ => fold(fold(fold(number, 0), 0), 0),
+    }
+}
+
+// Counts an answer of the checker by its number, and takes it into all of them.
 fn count(counts: &mut [u64; 12], answer: Checked) {
     let n = answer.number() as usize;
     if n < 12 {
         counts[n] = std::num::wrapping_add_u64(counts[n], 1);
     }
-}
-
-// Counts a form fault that is where it ought to be, and anything else as a wrong answer.
-fn count_fault(counts: &mut [u64; 12], answer: Checked, place: usize) {
-    if let Checked::Form { at } = answer {
-        if at == place {
-            counts[9] = std::num::wrapping_add_u64(counts[9], 1);
-            return;
-        }
-    }
-    counts[ELSEWHERE] = std::num::wrapping_add_u64(counts[ELSEWHERE], 1);
+    counts[ALL] = fold_answer(counts[ALL], answer);
 }
 
 // The length of the sheet that is written into the room, or 0 where it is refused.
@@ -51,27 +58,12 @@ fn sheet_of(values: &[f64], set: RuleSet, room: &mut [u8]) -> usize
     0
 }
 
-// Where the number begins that the byte at `next` belongs to, told the byte before it and where that one's number begins.
-fn begins(before: u8, start: usize, next: usize) -> usize {
-    if before < 128 {
-        return next;
-    }
-    start
-}
-
-// Checks the sheet cut at each place: the fault is at the first byte of the number that is cut, or that is missing.
+// Checks the sheet cut at each place.
 fn cut(values: &[f64], set: RuleSet, sheet: &[u8], counts: &mut [u64; 12]) {
-    let mut start: usize = 0;
     let mut n: usize = 0;
     while n < sheet.len() {
-        count_fault(
-            counts,
-            sheets::check(values, limits(), set, &sheet[0..n]),
-            start,
-        );
-        let next = n + 1;
-        start = begins(sheet[n], start, next);
-        n = next;
+        count(counts, sheets::check(values, limits(), set, &sheet[0..n]));
+        n += 1;
     }
 }
 
@@ -98,7 +90,7 @@ fn change(values: &[f64], set: RuleSet, sheet: &mut [u8], counts: &mut [u64; 12]
     }
 }
 
-// Checks the sheet, which ends one byte before the end of the room, with each byte more: the fault is at that byte.
+// Checks the sheet, which ends one byte before the end of the room, with each byte more.
 fn extend(values: &[f64], set: RuleSet, room: &mut [u8], counts: &mut [u64; 12])
     requires { ⌜ 0 < length (now room) ⌝ }
 {
@@ -106,11 +98,11 @@ fn extend(values: &[f64], set: RuleSet, room: &mut [u8], counts: &mut [u64; 12])
     let mut more: u8 = 255;
     while 0 < more {
         room[last] = more;
-        count_fault(counts, sheets::check(values, limits(), set, room), last);
+        count(counts, sheets::check(values, limits(), set, room));
         more -= 1;
     }
     room[last] = 0;
-    count_fault(counts, sheets::check(values, limits(), set, room), last);
+    count(counts, sheets::check(values, limits(), set, room));
 }
 
 // Writes a sheet into the room, and checks it as it is, changed, cut and extended. Gives its length.
@@ -233,7 +225,7 @@ fn main() {
     say(b"", bytes, b" bytes; refused ");
     say(b"", counts[9], b" by form, ");
     say(b"", counts[10], b" by count or set, ");
-    say(b"", counts[11], b" by marks, ");
-    say(b"", counts[ELSEWHERE], b" otherwise; ");
+    say(b"", counts[11], b" by marks; ");
+    say(b"all answers come to ", counts[ALL], b"; ");
     say(b"the longest has ", longest(), b" bytes\n");
 }

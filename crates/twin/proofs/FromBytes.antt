@@ -1,17 +1,14 @@
 -- Bytes read as values, and marks written as bytes. Assumes nothing.
 use mathlib.Core.Path.{_≡_, refl, ap, _∙_}
-use mathlib.Core.Bool.{true}
 use mathlib.Core.List.{List, [], _∷_}
 use Prim.Native.Nat.{ℕ, zero, suc, _+_, _*_, _/_, _%_, _≤_, _<_}
 use native.Mathlib.Nat.{le-of-suc-le-suc}
 use native.Mathlib.Omega.{arith}
-use lib.Ieee.{Float, nan, inf, fin, isNan}
 use lib.ListN.{length, take, drop, getD, length-drop}
 use lib.Seq.{getD-drop}
 use Rattle.laws.proofs.Lists.{length-tabulate}
 use Rattle.twin.specs.Bytes.{wordOf, floatAt, floatsOf, bytesOf}
 use Rattle.twin.specs.Steps.{fourAt}
-
 -- ---- eight bytes
 
 -- eight bytes at the front, by pairs
@@ -51,12 +48,6 @@ eight-is bs at h =
 pub length-floats : (bs : List ℕ) → length (floatsOf bs) ≡ length bs / 8
 unfolding floatsOf
 length-floats bs = length-tabulate (floatAt bs) (length bs / 8)
-
-pub is-nan : (v : Float) → isNan v ≡ true → nan ≡ v
-unfolding isNan
-is-nan nan h = refl
-is-nan (inf s) h = absurd (let z : _≡_ {A = ℕ} 0 1 = cc in omega arith)
-is-nan (fin s m e) h = absurd (let z : _≡_ {A = ℕ} 0 1 = cc in omega arith)
 
 -- ---- marks
 

@@ -7,7 +7,6 @@ use sheets::Checked;
 use sheets::Written;
 ghost use mathlib.Core.Path.{_≡_};
 ghost use Prim.Native.Nat.{_+_, _*_, _/_, _%_, _^_, _≤_, _<_};
-ghost use lib.Ieee.{binary64, ofBits};
 ghost use lib.ListN.{length, take, drop};
 ghost use Rattle.laws.specs.Front.{atFront};
 ghost use Rattle.rules.specs.Marking.{answerOf};
@@ -51,16 +50,6 @@ fn word(b: &[u8], at: usize) -> u64
     four(b, at) + 4294967296 * four(b, at + 4)
 }
 
-// What a pattern of 64 bits means. `from_bits` takes no NaN's pattern, so each of these is told apart first.
-fn float_of(w: u64) -> f64
-    ensures { λ r. ⌜ r ≡ ofBits binary64 w ⌝ }
-{
-    if w & 0x7fff_ffff_ffff_ffff > 0x7ff0_0000_0000_0000 {
-        return 0.0 / 0.0;
-    }
-    f64::from_bits(w)
-}
-
 // The values that the bytes mean, at the front of `out`.
 fn read_floats(b: &[u8], out: &mut [f64])
     requires { ⌜ length (now b) / 8 ≤ length (now out) ⌝ }
@@ -69,7 +58,7 @@ fn read_floats(b: &[u8], out: &mut [f64])
     let n = b.len() / 8;
     let mut i: usize = 0;
     while i < n {
-        out[i] = float_of(word(b, 8 * i));
+        out[i] = floats::of_bits(word(b, 8 * i));
         i += 1;
     }
 }

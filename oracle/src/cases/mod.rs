@@ -5,6 +5,7 @@ mod edges;
 mod flows;
 mod limits;
 mod marks;
+mod reports;
 
 use crate::case::Case;
 use crate::random::Random;
@@ -17,6 +18,7 @@ const LIST_SEED: u64 = 20_261_102;
 pub enum Part {
     Marks,
     Charts,
+    Reports,
 }
 
 impl Part {
@@ -24,6 +26,7 @@ impl Part {
         match name {
             "marks" => Some(Part::Marks),
             "charts" => Some(Part::Charts),
+            "reports" => Some(Part::Reports),
             _ => None,
         }
     }
@@ -35,6 +38,7 @@ pub fn list(part: Part) -> Vec<Case> {
     match part {
         Part::Marks => marks::list(&mut random).into_iter().map(Case::Marks).collect(),
         Part::Charts => charts::list(&mut random).into_iter().map(Case::Chart).collect(),
+        Part::Reports => reports::list(&mut random).into_iter().map(Case::Flow).collect(),
     }
 }
 
@@ -44,6 +48,7 @@ pub fn fresh(part: Part, count: usize, seed: u64) -> Vec<Case> {
     let mut one = || match part {
         Part::Marks => Case::Marks(marks::any(&mut random)),
         Part::Charts => Case::Chart(charts::any(&mut random)),
+        Part::Reports => Case::Flow(reports::any(&mut random)),
     };
     (0..count).map(|_| one()).collect()
 }

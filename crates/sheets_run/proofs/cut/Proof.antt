@@ -6,10 +6,10 @@ use Rattle.sheets_run.proofs.cut.Statement.{statement}
 use Rattle.sheets_run.proofs.cut.Tie as tie
 
 abbrev Inv-loop : tie.InvT-loop
-Inv-loop values set sheet counts₀ start₀ n₀ counts start n = n ≤ length sheet
+Inv-loop values set sheet counts₀ n₀ counts n = n ≤ length sheet
 
 abbrev μ-loop : tie.MeasureT-loop
-μ-loop values set sheet counts₀ start₀ n₀ counts start n = length sheet - n
+μ-loop values set sheet counts₀ n₀ counts n = length sheet - n
 
 loop-holds : tie.Need-loop-holds Inv-loop μ-loop
 loop-holds c = search needs
@@ -29,17 +29,11 @@ part-check-end c = search needs
 check-requires : tie.Need-check-requires Inv-loop μ-loop
 check-requires c κs = search needs
 
-count-fault-requires : tie.Need-count-fault-requires Inv-loop μ-loop
-count-fault-requires c κs = search needs
+count-requires : tie.Need-count-requires Inv-loop μ-loop
+count-requires c κs = search needs
 
-add-next : tie.Need-add-next Inv-loop μ-loop
-add-next c = search needs
-
-shared-slice-read-begins : tie.Need-shared-slice-read-begins Inv-loop μ-loop
-shared-slice-read-begins c = search needs
-
-begins-requires : tie.Need-begins-requires Inv-loop μ-loop
-begins-requires c κs = search needs
+add-n : tie.Need-add-n Inv-loop μ-loop
+add-n c = search needs
 
 loop-less : tie.Need-loop-less Inv-loop μ-loop
 loop-less c = search needs
@@ -62,10 +56,8 @@ cut-spec =
     part-check-start
     part-check-end
     check-requires
-    count-fault-requires
-    add-next
-    shared-slice-read-begins
-    begins-requires
+    count-requires
+    add-n
     loop-less
     loop-again
     returns)

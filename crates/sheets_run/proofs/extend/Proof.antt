@@ -27,8 +27,8 @@ limits-requires c κs = search needs
 check-requires : tie.Need-check-requires Inv-loop μ-loop
 check-requires c κs = search needs
 
-count-fault-requires : tie.Need-count-fault-requires Inv-loop μ-loop
-count-fault-requires c κs = search needs
+count-requires : tie.Need-count-requires Inv-loop μ-loop
+count-requires c κs = search needs
 
 sub-more : tie.Need-sub-more Inv-loop μ-loop
 sub-more c = search needs
@@ -48,8 +48,8 @@ limits-requires-2 c κs = search needs
 check-requires-2 : tie.Need-check-requires-2 Inv-loop μ-loop
 check-requires-2 c κs = search needs
 
-count-fault-requires-2 : tie.Need-count-fault-requires-2 Inv-loop μ-loop
-count-fault-requires-2 c κs = search needs
+count-requires-2 : tie.Need-count-requires-2 Inv-loop μ-loop
+count-requires-2 c κs = search needs
 
 same-length : tie.Need-same-length Inv-loop μ-loop
 same-length c = search needs
@@ -68,13 +68,13 @@ extend-spec =
     slice-write-room
     limits-requires
     check-requires
-    count-fault-requires
+    count-requires
     sub-more
     loop-less
     loop-again
     slice-write-room-2
     limits-requires-2
     check-requires-2
-    count-fault-requires-2
+    count-requires-2
     same-length
     returns)

@@ -27,8 +27,8 @@ mul-word c = search needs
 word-requires : tie.Need-word-requires Inv-loop μ-loop
 word-requires c κs = search needs
 
-float-of-requires : tie.Need-float-of-requires Inv-loop μ-loop
-float-of-requires c κs = search needs
+of-bits-requires : tie.Need-of-bits-requires Inv-loop μ-loop
+of-bits-requires c κs = search needs
 
 mul-out : tie.Need-mul-out Inv-loop μ-loop
 mul-out c =
@@ -56,8 +56,8 @@ loop-again c =
     let args = c .before .before .before .before .before .before .args in
     let loop = c .before .before .before .loop in
     let b = args .b .now in
-    tabling-goes-on (floatAt b) (length b / 8) (args .out .now) (loop .out) (loop .i) (loop .inv) (c .float-of .result)
-    (c .before .before .loop-test .taken) (c .float-of .ensures ∙ ap (ofBits binary64) (c .before .word .ensures))
+    tabling-goes-on (floatAt b) (length b / 8) (args .out .now) (loop .out) (loop .i) (loop .inv) (c .of-bits .result)
+    (c .before .before .loop-test .taken) (c .of-bits .ensures ∙ ap (ofBits binary64) (c .before .word .ensures))
 
 same-length : tie.Need-same-length Inv-loop μ-loop
 same-length c =
@@ -83,7 +83,7 @@ read-floats-spec =
     loop-holds
     mul-word
     word-requires
-    float-of-requires
+    of-bits-requires
     mul-out
     slice-write-out
     add-i

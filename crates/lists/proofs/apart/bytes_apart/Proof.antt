@@ -1,0 +1,66 @@
+-- `lists::apart::bytes_apart` meets its contract. The invariant of its loop: the entries that were passed match. The measure is what is left of
+-- them. Assumes nothing.
+use Prim.Native.Nat.{_-_}
+use native.Mathlib.Omega.{arith}
+use borrow.Author.Needs.{needs}
+use lib.ListN.{length}
+use Rattle.lists.proofs.Matching.{Matching, matching-starts, matching-goes-on, matching-parts, matching-ends}
+use Rattle.lists.proofs.apart.bytes_apart.Statement.{statement}
+use Rattle.lists.proofs.apart.bytes_apart.Tie as tie
+
+abbrev Inv-loop : tie.InvT-loop
+Inv-loop ours right i₀ i = Matching ours right i
+
+abbrev μ-loop : tie.MeasureT-loop
+μ-loop ours right i₀ i = length ours - i
+
+loop-holds : tie.Need-loop-holds Inv-loop μ-loop
+loop-holds c = matching-starts _ _
+
+shared-slice-read-wide-byte : tie.Need-shared-slice-read-wide-byte Inv-loop μ-loop
+shared-slice-read-wide-byte c = search needs
+
+wide-byte-requires : tie.Need-wide-byte-requires Inv-loop μ-loop
+wide-byte-requires c κs = search needs
+
+shared-slice-read-wide-byte-2 : tie.Need-shared-slice-read-wide-byte-2 Inv-loop μ-loop
+shared-slice-read-wide-byte-2 c = search needs
+
+wide-byte-requires-2 : tie.Need-wide-byte-requires-2 Inv-loop μ-loop
+wide-byte-requires-2 c κs = search needs
+
+returns : tie.Need-returns Inv-loop μ-loop
+returns c =
+    matching-parts _ _ _ (c .before .before .before .before .before .before .loop .inv) (c .before .before .before .before .before .loop-test .taken) _ _
+    (c .before .before .before .wide-byte .ensures) (c .before .wide-byte2 .ensures) (c .if1 .taken)
+
+add-i : tie.Need-add-i Inv-loop μ-loop
+add-i c = search needs
+
+loop-less : tie.Need-loop-less Inv-loop μ-loop
+loop-less c = search needs
+
+loop-again : tie.Need-loop-again Inv-loop μ-loop
+loop-again c =
+    matching-goes-on _ _ _ (c .before .before .before .before .before .before .loop .inv) (c .before .before .before .before .before .loop-test .taken) _ _
+    (c .before .before .before .wide-byte .ensures) (c .before .wide-byte2 .ensures) (c .if1 .left)
+
+returns-2 : tie.Need-returns-2 Inv-loop μ-loop
+returns-2 c = matching-ends _ _ _ (c .before .loop .inv) (c .before .before .before .before .pre) (c .loop-test .left)
+
+pub bytes-apart-spec : {M : Type 1} → statement M
+bytes-apart-spec =
+    tie.close
+    (tie.spec
+    Inv-loop
+    μ-loop
+    loop-holds
+    shared-slice-read-wide-byte
+    wide-byte-requires
+    shared-slice-read-wide-byte-2
+    wide-byte-requires-2
+    returns
+    add-i
+    loop-less
+    loop-again
+    returns-2)

@@ -1,0 +1,224 @@
+-- `flow::read_head` meets its contract: its numbers are those of `headFrom`, in the same order. Assumes nothing.
+use mathlib.Core.Path.{sym, _∙_}
+use mathlib.Core.List.{List}
+use Prim.Native.Nat.{ℕ}
+use lib.Dec.{ltb}
+use borrow.Author.Tests.{lt-ltb, le-ltb}
+use Rattle.charts.specs.Records.{kindWrong, sizeWrong}
+use Rattle.charts.proofs.Cases.{told}
+use Rattle.charts.proofs.Held.{size-bounds}
+use Rattle.reports.specs.Flow.{countWrong, headFrom}
+use Rattle.reports.proofs.Heads.{Passed, no-number, wrong-value, goes, legal}
+use borrow.Author.Needs.{needs}
+use Rattle.reports.proofs.flow.read_head.Statement.{statement}
+use Rattle.reports.proofs.flow.read_head.Tie as tie
+
+-- ---- the numbers that were read and are not wrong
+
+abbrev bytes : tie.Else1 → List ℕ
+bytes c = c .before .before .before .before .before .before .before .args .s .now
+
+abbrev kind : tie.Else1 → ℕ
+kind c = c .before .before .before .kind .given .0 .0
+
+abbrev second : tie.Else1 → ℕ
+second c = c .before .before .before .kind .given .0 .1 .0
+
+kind-passed : (c : tie.Else1) → Passed kindWrong (bytes c) 0 (kind c) (second c)
+kind-passed c = record {
+  stands = sym (c .before .before .before .before .before .read-number .ensures) ∙ c .before .before .before .kind .given .1;
+  right = told (c .before .kind-wrong .ensures) (c .if1 .left);
+}
+
+abbrev past-kind : tie.Else2 → tie.Else1
+past-kind c = c .before .before .before .before .before .before
+
+abbrev size : tie.Else2 → ℕ
+size c = c .before .before .before .size .given .0 .0
+
+abbrev third : tie.Else2 → ℕ
+third c = c .before .before .before .size .given .0 .1 .0
+
+size-passed : (c : tie.Else2) → Passed (sizeWrong (kind (past-kind c))) (bytes (past-kind c)) (second (past-kind c)) (size c) (third c)
+size-passed c = record {
+  stands = sym (c .before .before .before .before .before .read-number2 .ensures) ∙ c .before .before .before .size .given .1;
+  right = told (c .before .size-wrong .ensures) (c .if2 .left);
+}
+
+abbrev past-size : tie.Else3 → tie.Else2
+past-size c = c .before .before .before .before .before
+
+abbrev set : tie.Else3 → ℕ
+set c = c .before .before .set .given .0 .0
+
+abbrev fourth : tie.Else3 → ℕ
+fourth c = c .before .before .set .given .0 .1 .0
+
+set-passed : (c : tie.Else3) → Passed (λ set. ltb 511 set) (bytes (past-kind (past-size c))) (third (past-size c)) (set c) (fourth c)
+set-passed c = record {
+  stands = sym (c .before .before .before .before .read-number3 .ensures) ∙ c .before .before .set .given .1;
+  right = le-ltb 511 (set c) (c .if3 .left);
+}
+
+abbrev past-set : tie.Else4 → tie.Else3
+past-set c = c .before .before .before .before .before .before
+
+count-passed : (c : tie.Else4)
+    → Passed (countWrong (size (past-size (past-set c)))) (bytes (past-kind (past-size (past-set c)))) (fourth (past-set c))
+    (c .before .before .before .count .given .0 .0) (c .before .before .before .count .given .0 .1 .0)
+count-passed c = record {
+  stands = sym (c .before .before .before .before .before .read-number4 .ensures) ∙ c .before .before .before .count .given .1;
+  right = told (c .before .count-wrong .ensures) (c .if4 .left);
+}
+
+read-number-requires : tie.Need-read-number-requires
+read-number-requires c κs = search needs
+
+enum-known-kind : tie.Need-enum-known-kind
+enum-known-kind c = search needs
+
+enum-told : tie.Need-enum-told
+enum-told c = search needs
+
+returns : tie.Need-returns
+unfolding headFrom
+returns c = (no-number 12 _ _ _ _ _ (sym (c .before .before .read-number .ensures) ∙ c .enum-told .given .1), tt)
+
+kind-wrong-requires : tie.Need-kind-wrong-requires
+kind-wrong-requires c κs = search needs
+
+returns-2 : tie.Need-returns-2
+unfolding headFrom
+returns-2 c =
+    let read = sym (c .before .before .before .before .before .read-number .ensures) ∙ c .before .before .before .kind .given .1 in
+    (wrong-value 12 _ _ _ _ _ _ read (told (c .before .kind-wrong .ensures) (c .if1 .taken)), tt)
+
+read-number-requires-2 : tie.Need-read-number-requires-2
+read-number-requires-2 c κs = search needs
+
+enum-known-size : tie.Need-enum-known-size
+enum-known-size c = search needs
+
+enum-told-2 : tie.Need-enum-told-2
+enum-told-2 c = search needs
+
+returns-3 : tie.Need-returns-3
+unfolding headFrom
+returns-3 c =
+    (goes 12 _ _ _ _ (kind-passed (c .before .before .before)) ∙ no-number 1 _ _ _ _ _ (sym (c .before .before .read-number2 .ensures) ∙ c .enum-told2 .given .1), tt)
+
+size-wrong-requires : tie.Need-size-wrong-requires
+size-wrong-requires c κs = kind-passed (c .before .before .before .before) .right
+
+returns-4 : tie.Need-returns-4
+unfolding headFrom
+returns-4 c =
+    let read = sym (c .before .before .before .before .before .read-number2 .ensures) ∙ c .before .before .before .size .given .1 in (
+      goes 12 _ _ _ _ (kind-passed (c .before .before .before .before .before .before))
+          ∙ wrong-value 1 _ _ _ _ _ _ read (told (c .before .size-wrong .ensures) (c .if2 .taken)),
+      tt,
+    )
+
+read-number-requires-3 : tie.Need-read-number-requires-3
+read-number-requires-3 c κs = search needs
+
+enum-known-set : tie.Need-enum-known-set
+enum-known-set c = search needs
+
+enum-told-3 : tie.Need-enum-told-3
+enum-told-3 c = search needs
+
+returns-5 : tie.Need-returns-5
+unfolding headFrom
+returns-5 c =
+    let size = c .before .before .before in (
+      goes 12 _ _ _ _ (kind-passed (past-kind size)) ∙ goes 1 _ _ _ _ (size-passed size)
+          ∙ no-number 4 _ _ _ _ _ (sym (c .before .before .read-number3 .ensures) ∙ c .enum-told3 .given .1),
+      tt,
+    )
+
+returns-6 : tie.Need-returns-6
+unfolding headFrom
+returns-6 c =
+    let size = c .before .before .before .before .before in
+    let read = sym (c .before .before .before .before .read-number3 .ensures) ∙ c .before .before .set .given .1 in (
+      goes 12 _ _ _ _ (kind-passed (past-kind size)) ∙ goes 1 _ _ _ _ (size-passed size)
+          ∙ wrong-value 4 _ _ _ _ _ _ read (lt-ltb 511 _ (c .if3 .taken)),
+      tt,
+    )
+
+read-number-requires-4 : tie.Need-read-number-requires-4
+read-number-requires-4 c κs = search needs
+
+enum-known-count : tie.Need-enum-known-count
+enum-known-count c = search needs
+
+enum-told-4 : tie.Need-enum-told-4
+enum-told-4 c = search needs
+
+returns-7 : tie.Need-returns-7
+unfolding headFrom
+returns-7 c =
+    let set = c .before .before .before in
+    let size = past-size set in (
+      goes 12 _ _ _ _ (kind-passed (past-kind size)) ∙ goes 1 _ _ _ _ (size-passed size) ∙ goes 4 _ _ _ _ (set-passed set)
+          ∙ no-number 5 _ _ _ _ _ (sym (c .before .before .read-number4 .ensures) ∙ c .enum-told4 .given .1),
+      tt,
+    )
+
+count-wrong-requires : tie.Need-count-wrong-requires
+count-wrong-requires c κs = size-bounds _ _ (size-passed (c .before .before .before .before .before .before .before .before .before) .right) .1
+
+returns-8 : tie.Need-returns-8
+unfolding headFrom
+returns-8 c =
+    let set = c .before .before .before .before .before .before in
+    let size = past-size set in
+    let read = sym (c .before .before .before .before .before .read-number4 .ensures) ∙ c .before .before .before .count .given .1 in (
+      goes 12 _ _ _ _ (kind-passed (past-kind size)) ∙ goes 1 _ _ _ _ (size-passed size) ∙ goes 4 _ _ _ _ (set-passed set)
+          ∙ wrong-value 5 _ _ _ _ _ _ read (told (c .before .count-wrong .ensures) (c .if4 .taken)),
+      tt,
+    )
+
+cast-t20 : tie.Need-cast-t20
+cast-t20 c = search needs
+
+returns-9 : tie.Need-returns-9
+unfolding headFrom
+returns-9 c =
+    let set = past-set c in
+    let size = past-size set in
+    let kind = past-kind size in (
+      goes 12 _ _ _ _ (kind-passed kind) ∙ goes 1 _ _ _ _ (size-passed size) ∙ goes 4 _ _ _ _ (set-passed set) ∙ goes 5 _ _ _ _ (count-passed c),
+      legal _ _ _ _ (kind-passed kind .right) (size-passed size .right) (set .if3 .left) (count-passed c .right),
+    )
+
+pub read-head-spec : {M : Type 1} → statement M
+read-head-spec =
+    tie.close
+    (tie.spec
+    read-number-requires
+    enum-known-kind
+    enum-told
+    returns
+    kind-wrong-requires
+    returns-2
+    read-number-requires-2
+    enum-known-size
+    enum-told-2
+    returns-3
+    size-wrong-requires
+    returns-4
+    read-number-requires-3
+    enum-known-set
+    enum-told-3
+    returns-5
+    returns-6
+    read-number-requires-4
+    enum-known-count
+    enum-told-4
+    returns-7
+    count-wrong-requires
+    returns-8
+    cast-t20
+    returns-9)

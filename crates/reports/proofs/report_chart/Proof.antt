@@ -1,0 +1,251 @@
+-- `report_chart` meets its contract: refused for its values or by evaluating, or told. Assumes nothing.
+use mathlib.Core.Path.{_≡_, sym, ap, _∙_}
+use mathlib.Core.Bool.{true}
+use mathlib.Core.List.{List}
+use Prim.Native.Nat.{ℕ, _-_}
+use native.Mathlib.Omega.{arith}
+use borrow.Author.Tests.{not-true, not-false}
+use lib.Ieee.{Float, binary64, ofBits}
+use lib.ListN.{length, take, replicate, length-replicate}
+use Rattle.laws.specs.Front.{atFrontIfRoom}
+use Rattle.rules.specs.Finite.{allFinite, finiteLimits}
+use Rattle.charts.specs.declared.Chart.{Chart}
+use Rattle.charts.specs.declared.Evaluated.{Evaluated}
+use Rattle.charts.specs.declared.Evaluated.the-variants.{Done}
+use Rattle.charts.specs.Records.{number}
+use Rattle.charts.specs.Series.{pointsIn}
+use Rattle.charts.specs.Evaluating.{evaluated, evaluateOf, limitsOf, seriesMarks, lentAfter}
+use Rattle.charts.proofs.Answers.{number-some}
+use Rattle.reports.specs.Text.{rLine}
+use Rattle.reports.specs.Report.{refusalOf, roomFor}
+use Rattle.reports.specs.Steps.{size, Legal}
+use Rattle.reports.proofs.Rooms.{Told}
+use Rattle.reports.proofs.Evaluations.{few-samples, points-fit, at-room, refused-so, done-so, main-limits, dispersion-limits}
+use Rattle.reports.proofs.Evaluations.{some-points, finite-limits, not-finite, report-refused, report-done}
+use Rattle.reports.proofs.Evaluations.{main-points, first-small, length-marks, marks-left}
+use borrow.Author.Needs.{needs}
+use Rattle.reports.proofs.report_chart.Statement.{statement}
+use Rattle.reports.proofs.report_chart.Tie as tie
+
+-- ---- the arguments, and what is known of the values
+
+abbrev chart : tie.Else1 → Chart
+chart c = c .before .before .before .before .args .chart
+
+abbrev values : tie.Else1 → List Float
+values c = c .before .before .before .before .args .values .now
+
+abbrev legal : (c : tie.Else1) → Legal (chart c)
+legal c = c .before .before .before .before .pre .0
+
+abbrev whole : (c : tie.Else1) → length (values c) ≡ size (chart c)
+whole c = c .before .before .before .before .pre .1
+
+finite : (c : tie.Else1) → allFinite (values c) ≡ true
+finite c = sym (c .before .all-finite .ensures) ∙ not-false _ (c .if1 .left)
+
+-- ---- what evaluating answered
+
+abbrev start : tie.After-evaluate → tie.Else1
+start c = c .before .before .before .before .before
+
+answer : (c : tie.After-evaluate) → evaluated (c .evaluate .result) ≡ evaluateOf (chart (start c)) (values (start c)) 2048 2048 2048 2048
+answer c =
+    c .evaluate .ensures .0
+    ∙ at-room (chart (start c)) (values (start c)) (length-replicate 2048 (ofBits binary64 0)) (length-replicate 2048 (ofBits binary64 0))
+    (length-replicate {A = ℕ} 2048 0) (length-replicate {A = ℕ} 2048 0)
+
+-- ---- what is known of an evaluation
+
+abbrev evaluating : tie.After-e → tie.After-evaluate
+evaluating c = c .before .before .before .before .before .before
+
+abbrev first : tie.After-e → tie.Else1
+first c = start (evaluating c)
+
+done : (c : tie.After-e) → evaluated (Done (c .e .given .0 .0)) ≡ evaluateOf (chart (first c)) (values (first c)) 2048 2048 2048 2048
+done c = sym (ap evaluated (c .e .given .1)) ∙ answer (evaluating c)
+
+none-refused : (c : tie.After-e) → refusalOf (chart (first c)) (values (first c)) ≡ 0
+none-refused c = let s = first c in done-so (chart s) (legal s) (values s) (whole s) (finite s) (c .e .given .0 .0) (done c)
+
+main-is : (c : tie.After-e) → c .e .given .0 .0 .main ≡ limitsOf (chart (first c)) 0 (values (first c))
+main-is c = let s = first c in main-limits (chart s) (legal s) (values s) (whole s) (finite s) (c .e .given .0 .0) (done c)
+
+dispersion-is : (c : tie.After-e) → c .e .given .0 .0 .dispersion ≡ limitsOf (chart (first c)) 1 (values (first c))
+dispersion-is c = let s = first c in dispersion-limits (chart s) (legal s) (values s) (whole s) (finite s) (c .e .given .0 .0) (done c)
+
+-- what a slice for marks holds, the answer being known
+abbrev left : tie.After-e → ℕ → Evaluated → List ℕ
+left c s r = lentAfter (evaluated r .number) 0 (seriesMarks (chart (first c)) s (values (first c))) (replicate 2048 0)
+
+abbrev marks : tie.After-e → List ℕ
+marks c = evaluating c .evaluate .last .1 .1 .1 .1 .0
+
+abbrev others : tie.After-e → List ℕ
+others c = evaluating c .evaluate .last .1 .1 .1 .1 .1 .0
+
+marks-are : (c : tie.After-e) → take (chart (first c) .count - 0) (marks c) ≡ seriesMarks (chart (first c)) 0 (values (first c))
+marks-are c =
+    marks-left (chart (first c)) 0 (values (first c)) (replicate 2048 0) (marks c) (chart (first c) .count)
+    (evaluating c .evaluate .ensures .1 .1 .1 .0 ∙ ap (left c 0) (c .e .given .1)) (sym (main-points (chart (first c))))
+
+others-are : (c : tie.After-e) (n : ℕ) → n ≡ pointsIn (chart (first c)) 1
+    → take (n - 0) (others c) ≡ seriesMarks (chart (first c)) 1 (values (first c))
+others-are c n e =
+    marks-left (chart (first c)) 1 (values (first c)) (replicate 2048 0) (others c) n
+    (evaluating c .evaluate .ensures .1 .1 .1 .1 ∙ ap (left c 1) (c .e .given .1)) e
+
+-- ---- a text that is told is the report's
+
+module _ (text report room : List ℕ) (is : text ≡ report) where
+  as-report : {answer : ℕ × ℕ} {after : List ℕ} → Told text room answer after → Told report room answer after
+  as-report e = (
+    e .0 ∙ ap (λ (x : List ℕ). roomFor x (length room)) is,
+    e .1 ∙ ap (λ (x : List ℕ). atFrontIfRoom x room) is,
+  )
+
+all-finite-requires : tie.Need-all-finite-requires
+all-finite-requires c κs = search needs
+
+refuse-requires : tie.Need-refuse-requires
+refuse-requires c κs = search needs
+
+same-length : tie.Need-same-length
+same-length c = search needs
+
+returns : tie.Need-returns
+returns c =
+    let args = c .before .before .before .before .before .before .before .before .args in
+    let none = not-finite (args .chart) (args .values .now) (sym (c .before .before .before .before .before .all-finite .ensures) ∙ not-true _ (c .before .before .before .before .if1 .taken)) in
+    as-report _ _ (args .out .now) (report-refused (args .chart) (args .values .now) 3 none (λ e. omega arith)) (c .before .before .refuse .ensures)
+
+slice-aggregate-evaluate : tie.Need-slice-aggregate-evaluate
+slice-aggregate-evaluate c = search needs
+
+slice-aggregate-evaluate-2 : tie.Need-slice-aggregate-evaluate-2
+slice-aggregate-evaluate-2 c = search needs
+
+slice-aggregate-evaluate-3 : tie.Need-slice-aggregate-evaluate-3
+slice-aggregate-evaluate-3 c = search needs
+
+slice-aggregate-evaluate-4 : tie.Need-slice-aggregate-evaluate-4
+slice-aggregate-evaluate-4 c = search needs
+
+evaluate-requires : tie.Need-evaluate-requires
+evaluate-requires c κs = search needs
+
+enum-known-why : tie.Need-enum-known-why
+enum-known-why c = search needs
+
+number-requires : tie.Need-number-requires
+number-requires c κs = search needs
+
+cast-refuse : tie.Need-cast-refuse
+cast-refuse c = search needs
+
+refuse-requires-2 : tie.Need-refuse-requires-2
+refuse-requires-2 c κs = search needs
+
+enum-known-e : tie.Need-enum-known-e
+enum-known-e c = search needs
+
+dispersion-points-requires : tie.Need-dispersion-points-requires
+dispersion-points-requires c κs = some-points (chart (first (c .before))) (values (first (c .before))) (none-refused (c .before))
+
+sub-tell : tie.Need-sub-tell
+sub-tell c = search needs
+
+part-tell-start : tie.Need-part-tell-start
+part-tell-start c = search needs
+
+part-tell-end : tie.Need-part-tell-end
+part-tell-end c =
+    let place = c .before .before .before in
+    let s = first place in
+    omega (arith, few-samples (chart s) (legal s), evaluating place .evaluate .kept .1 .1 .1 .1 .0, length-replicate {A = ℕ} 2048 0)
+
+sub-tell-2 : tie.Need-sub-tell-2
+sub-tell-2 c = search needs
+
+part-tell-start-2 : tie.Need-part-tell-start-2
+part-tell-start-2 c = search needs
+
+part-tell-end-2 : tie.Need-part-tell-end-2
+part-tell-end-2 c =
+    let place = c .before .before .before .before .before in
+    let s = first place in
+    let kept = evaluating place .evaluate .kept .1 .1 .1 .1 .1 .0 in
+    omega (arith, points-fit (chart s) (legal s) 1, c .before .before .before .dispersion-points .ensures, kept, length-replicate {A = ℕ} 2048 0)
+
+tell-requires : tie.Need-tell-requires
+tell-requires c κs =
+    let place = c .before .before .before .before .before .before .before in
+    let s = first place in
+    let none = none-refused place in
+    let points = c .before .before .before .before .before .dispersion-points .ensures in (
+      (
+        ap finiteLimits (main-is place) ∙ finite-limits (chart s) (values s) none 0,
+        ap finiteLimits (dispersion-is place) ∙ finite-limits (chart s) (values s) none 1,
+      ),
+      record {
+        few = omega (arith, ap length (marks-are place), length-marks (chart s) 0 (values s), points-fit (chart s) (legal s) 0);
+        fewOthers = omega (arith, ap length (others-are place _ points), length-marks (chart s) 1 (values s), points-fit (chart s) (legal s) 1);
+        start = first-small (chart s);
+      },
+    )
+
+same-length-2 : tie.Need-same-length-2
+same-length-2 c = search needs
+
+returns-2 : tie.Need-returns-2
+returns-2 c =
+    let why = c .before .before .before .before .before .before .why .given in
+    let s = start (c .before .before .before .before .before .before .before .before .before .before .before .before) in
+    let refused = refused-so (chart s) (legal s) (values s) (whole s) (finite s) (why .0 .0) (sym (ap evaluated (why .1)) ∙ answer (c .before .before .before .before .before .before .before .before .before .before .before .before)) in
+    as-report _ _ (s .before .before .before .before .args .out .now)
+    (ap rLine (c .before .before .before .before .number .ensures) ∙ report-refused (chart s) (values s) (number (why .0 .0)) refused (number-some (why .0 .0)))
+    (c .before .before .refuse2 .ensures)
+
+same-length-3 : tie.Need-same-length-3
+same-length-3 c = search needs
+
+returns-3 : tie.Need-returns-3
+returns-3 c =
+    let place = c .before .before .before .before .before .before .before .before .before .before in
+    let s = first place in
+    as-report _ _ (s .before .before .before .before .args .out .now)
+    (report-done (chart s) (values s) (none-refused place) (main-is place) (dispersion-is place) (marks-are place)
+    (others-are place _ (c .before .before .before .before .before .before .before .before .dispersion-points .ensures)))
+    (c .before .before .tell .ensures)
+
+pub report-chart-spec : {M : Type 1} → statement M
+report-chart-spec =
+    tie.close
+    (tie.spec
+    all-finite-requires
+    refuse-requires
+    same-length
+    returns
+    slice-aggregate-evaluate
+    slice-aggregate-evaluate-2
+    slice-aggregate-evaluate-3
+    slice-aggregate-evaluate-4
+    evaluate-requires
+    enum-known-why
+    number-requires
+    cast-refuse
+    refuse-requires-2
+    enum-known-e
+    dispersion-points-requires
+    sub-tell
+    part-tell-start
+    part-tell-end
+    sub-tell-2
+    part-tell-start-2
+    part-tell-end-2
+    tell-requires
+    same-length-2
+    returns-2
+    same-length-3
+    returns-3)
