@@ -28,7 +28,8 @@ use Rattle.rules.specs.Tests.{window, shows}
 use Rattle.rules.specs.Finite.{allFinite, finiteLimits}
 use Rattle.rules.specs.Marking.{newestFirst, stands, marksAt, marksOf, answerOf, marksAfter}
 use Rattle.rules.specs.declared.evidence.Span.{Span}
-use Rattle.rules.specs.Evidence.{testOf, partTo, shownAt, showsAlone, spanAt}
+use Rattle.rules.specs.Evidence.{testOf, partTo, shownAt}
+use Rattle.rules.specs.Steps.{showsAlone, spanAt}
 use Rattle.rules.proofs.Meaning.{length-marks, marks-at}
 
 -- ---- the test of a bit

@@ -15,7 +15,8 @@ use Rattle.rules.specs.Lines.{linesOf}
 use Rattle.rules.specs.Tests.{window, shows}
 use Rattle.rules.specs.Finite.{allFinite, finiteLimits}
 use Rattle.rules.specs.Marking.{newestFirst, stands}
-use Rattle.rules.specs.Evidence.{Part, nothing, testOf, partTo, shownAt, evidenceOf, spanAt}
+use Rattle.rules.specs.Evidence.{Part, nothing, testOf, partTo, shownAt, evidenceOf}
+use Rattle.rules.specs.Steps.{spanAt}
 use Rattle.rules.proofs.Behind.{length-newest}
 
 abbrev pub spanned : Bool → Span → Part

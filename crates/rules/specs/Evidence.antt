@@ -1,6 +1,6 @@
 -- The window behind a mark (01, 'The mark sheet', Evidence). Definitions only.
 use mathlib.Core.Path.{_≡_}
-use mathlib.Core.Bool.{Bool, true, false, _&&_, cond}
+use mathlib.Core.Bool.{Bool, false, _&&_, cond}
 use mathlib.Core.List.{List}
 use Prim.Native.Nat.{ℕ, suc, _+_, _*_, _-_}
 use denote.Ref.{RefT}
@@ -11,9 +11,8 @@ use Rattle.sets.specs.declared.Test.{Test}
 use Rattle.sets.specs.declared.Test.the-variants.{BeyondLimits}
 use Rattle.sets.specs.Sets.{tests}
 use Rattle.rules.specs.declared.Limits.{Limits}
-use Rattle.rules.specs.declared.evidence.Span.{Span}
 use Rattle.rules.specs.Lines.{linesOf}
-use Rattle.rules.specs.Tests.{window, shows}
+use Rattle.rules.specs.Tests.{window}
 use Rattle.rules.specs.Finite.{allFinite, finiteLimits}
 use Rattle.rules.specs.Marking.{newestFirst, stands}
 
@@ -56,17 +55,3 @@ pub record IsPart (main dispersion r : RefT (List Float)) (p : Part) : Type 0 wh
   pub block : r .ptr .0 ≡ cond (p .second) (dispersion .ptr .0) (main .ptr .0)
   pub place : r .ptr .1 ≡ cond (p .second) (dispersion .ptr .1) (main .ptr .1) + p .start * 8
   pub values : r .now ≡ take (p .long) (drop (p .start) (cond (p .second) (dispersion .now) (main .now)))
-
--- ---- inner steps of the code
-
--- the values of a window and the limits are finite, and it shows the pattern
-abbrev pub showsAlone : Limits → ℕ → List Float → Bool
-showsAlone limits bit part =
-    finiteLimits limits && (allFinite part && shows (testOf bit) (linesOf limits) (newestFirst part (length part)))
-
--- where it starts and ends in its series, or 0 and 0 where there is none
-unfoldable pub spanAt : List Float → Limits → ℕ → ℕ → Span
-spanAt series limits at bit =
-    cond (shownAt series limits at bit)
-    (record { start = suc at - window (testOf bit); end = suc at })
-    (record { start = 0; end = 0 })

@@ -5,3 +5,4 @@ pub mod Finite
 pub mod Marking
 pub mod Codes
 pub mod Evidence
+pub mod Steps

@@ -9,6 +9,7 @@ use lib.Seq.{getD-drop}
 use Rattle.laws.proofs.Lists.{length-tabulate}
 use Rattle.twin.specs.Bytes.{wordOf, floatAt, floatsOf, bytesOf}
 use Rattle.twin.specs.Steps.{fourAt}
+
 -- ---- eight bytes
 
 -- eight bytes at the front, by pairs

@@ -1,0 +1,25 @@
+-- What the parts of evidence find. Nothing here has to be believed: the proofs tie it to Evidence.antt. Definitions only.
+use mathlib.Core.Bool.{Bool, _&&_, cond}
+use mathlib.Core.List.{List}
+use Prim.Native.Nat.{ℕ, suc, _-_}
+use lib.Ieee.{Float}
+use lib.ListN.{length}
+use Rattle.rules.specs.declared.Limits.{Limits}
+use Rattle.rules.specs.declared.evidence.Span.{Span}
+use Rattle.rules.specs.Lines.{linesOf}
+use Rattle.rules.specs.Tests.{window, shows}
+use Rattle.rules.specs.Finite.{allFinite, finiteLimits}
+use Rattle.rules.specs.Marking.{newestFirst}
+use Rattle.rules.specs.Evidence.{testOf, shownAt}
+
+-- the values of a window and the limits are finite, and it shows the pattern
+abbrev pub showsAlone : Limits → ℕ → List Float → Bool
+showsAlone limits bit part =
+    finiteLimits limits && (allFinite part && shows (testOf bit) (linesOf limits) (newestFirst part (length part)))
+
+-- where it starts and ends in its series, or 0 and 0 where there is none
+unfoldable pub spanAt : List Float → Limits → ℕ → ℕ → Span
+spanAt series limits at bit =
+    cond (shownAt series limits at bit)
+    (record { start = suc at - window (testOf bit); end = suc at })
+    (record { start = 0; end = 0 })
