@@ -24,6 +24,14 @@ module _ (text room : List ℕ) where
     f ∙ sym (ap (λ (b : Bool). cond b (atFront text room) room) (le-leb (length text) (length room) h)),
   )
 
+-- a text that is told is told as what it equals
+module _ (text report room : List ℕ) (is : text ≡ report) where
+  pub as-report : {answer : ℕ × ℕ} {after : List ℕ} → Told text room answer after → Told report room answer after
+  as-report e = (
+    e .0 ∙ ap (λ (x : List ℕ). roomFor x (length room)) is,
+    e .1 ∙ ap (λ (x : List ℕ). atFrontIfRoom x room) is,
+  )
+
 -- a text that was written lies within the room
 pub within : (text : List ℕ) (room n : ℕ) → _≡_ {A = ℕ × ℕ} (0, n) (roomFor text room) → n ≤ room
 within text room n = by (leb (length text) room) refl

@@ -4,31 +4,36 @@ use mathlib.Core.List.{List}
 use Prim.Native.Nat.{ℕ, _-_, _≤_}
 use native.Mathlib.Nat.{sub-zero}
 use native.Mathlib.Omega.{arith}
-use lib.Ieee.{binary64, ofBits}
+use lib.Ieee.{Float, binary64, ofBits}
 use lib.ListN.{length, take, length-replicate}
 use lib.Seq.{length-take-le}
-use Rattle.laws.specs.Front.{atFrontIfRoom}
+use Rattle.charts.specs.declared.Chart.{Chart}
 use Rattle.charts.proofs.Held.{own}
 use Rattle.reports.specs.declared.flow.Flow.{Flow}
 use Rattle.reports.specs.Flow.{flow, flowOf}
 use Rattle.reports.specs.Text.{rLine}
-use Rattle.reports.specs.Report.{chartReport, textOn, textOf, roomFor}
+use Rattle.reports.specs.Report.{chartReport, textOn, textOf}
 use Rattle.reports.specs.Steps.{Legal, LegalFlow, saidBy, size}
+use Rattle.reports.proofs.Rooms.{as-report}
 use borrow.Author.Needs.{needs}
 use Rattle.reports.proofs.report.Statement.{statement}
 use Rattle.reports.proofs.report.Tie as tie
 
 -- ---- what is known of the chart that was read
 
-legal : (c : tie.After-chart) → Legal (c .chart .given .0 .0)
+abbrev chart : tie.After-chart → Chart
+chart c = c .chart .given .0 .0
+
+abbrev values : tie.After-chart → List Float
+values c = c .before .before .before .read-flow .last .1 .0
+
+legal : (c : tie.After-chart) → Legal (chart c)
 legal c = subst LegalFlow (c .chart .given .1) (c .before .before .before .read-flow .ensures .1)
 
-said : (c : tie.After-chart) → flowOf (c .before .before .before .before .before .before .before .args .input .now) ≡ flow (c .chart .given .0 .0) (take (size (c .chart .given .0 .0)) (c .before .before .before .read-flow .last .1 .0))
-said c =
-    let read-flow = c .before .before .before .read-flow in
-    read-flow .ensures .0 ∙ ap (λ (f : Flow). saidBy f (read-flow .last .1 .0)) (c .chart .given .1)
+said : (c : tie.After-chart) → flowOf (c .before .before .before .before .before .before .before .args .input .now) ≡ flow (chart c) (take (size (chart c)) (values c))
+said c = c .before .before .before .read-flow .ensures .0 ∙ ap (λ (f : Flow). saidBy f (values c)) (c .chart .given .1)
 
-room : (c : tie.After-chart) → size (c .chart .given .0 .0) ≤ length (c .before .before .before .read-flow .last .1 .0)
+room : (c : tie.After-chart) → size (chart c) ≤ length (values c)
 room c = omega (arith, legal c .few, c .before .before .before .read-flow .kept .1 .0, length-replicate 2048 (ofBits binary64 0))
 
 slice-aggregate-read-flow : tie.Need-slice-aggregate-read-flow
@@ -63,12 +68,9 @@ part-report-chart-end c = room (c .before .before .before)
 
 report-chart-requires : tie.Need-report-chart-requires
 report-chart-requires c κs =
-    let read-flow = c .before .before .before .before .before .before .before .before .read-flow in
-    let chart = c .before .before .before .before .before .chart in
-    let before = c .before .before .before .before .before in
-    let place = before in
-    let n = size (chart .given .0 .0) in
-    (legal place, ap (λ (k : ℕ). length (take k (read-flow .last .1 .0))) (sub-zero n) ∙ length-take-le n (read-flow .last .1 .0) (room place))
+    let place = c .before .before .before .before .before in
+    let n = size (chart place) in
+    (legal place, ap (λ (k : ℕ). length (take k (values place))) (sub-zero n) ∙ length-take-le n (values place) (room place))
 
 same-length : tie.Need-same-length
 same-length c = search needs
@@ -78,13 +80,10 @@ unfolding textOf
 returns c =
     let args = c .before .before .before .before .before .before .before .before .before .before .before .before .args in
     let read-flow = c .before .before .before .before .before .before .before .before .read-flow in
-    let why = c .before .before .before .before .before .why in
-    let refuse = c .before .before .refuse in
-    let text = read-flow .ensures .0 ∙ ap (λ (f : Flow). saidBy f (read-flow .last .1 .0)) (why .given .1) in
-    let is : textOf (args .input .now) ≡ rLine (why .given .0 .0) = ap textOn text in (
-      refuse .ensures .0 ∙ ap (λ (x : List ℕ). roomFor x (length (args .out .now))) (sym is),
-      refuse .ensures .1 ∙ ap (λ (x : List ℕ). atFrontIfRoom x (args .out .now)) (sym is),
-    )
+    let why = c .before .before .before .before .before .why .given in
+    let is : textOf (args .input .now) ≡ rLine (why .0 .0) =
+    ap textOn (read-flow .ensures .0 ∙ ap (λ (f : Flow). saidBy f (read-flow .last .1 .0)) (why .1)) in
+    as-report _ _ (args .out .now) (sym is) (c .before .before .refuse .ensures)
 
 same-length-2 : tie.Need-same-length-2
 same-length-2 c = search needs
@@ -93,17 +92,11 @@ returns-2 : tie.Need-returns-2
 unfolding textOf
 returns-2 c =
     let args = c .before .before .before .before .before .before .before .before .before .before .before .before .before .before .before .args in
-    let read-flow = c .before .before .before .before .before .before .before .before .before .before .before .read-flow in
-    let chart = c .before .before .before .before .before .before .before .before .chart in
-    let before = c .before .before .before .before .before .before .before .before in
-    let report-chart = c .before .before .report-chart in
-    let place = before in
-    let n = size (chart .given .0 .0) in
-    let is : textOf (args .input .now) ≡ chartReport (chart .given .0 .0) (take (n - 0) (read-flow .last .1 .0)) =
-    ap textOn (said place) ∙ ap (λ (k : ℕ). chartReport (chart .given .0 .0) (take k (read-flow .last .1 .0))) (sym (sub-zero n)) in (
-      report-chart .ensures .0 ∙ ap (λ (x : List ℕ). roomFor x (length (args .out .now))) (sym is),
-      report-chart .ensures .1 ∙ ap (λ (x : List ℕ). atFrontIfRoom x (args .out .now)) (sym is),
-    )
+    let place = c .before .before .before .before .before .before .before .before in
+    let n = size (chart place) in
+    let is : textOf (args .input .now) ≡ chartReport (chart place) (take (n - 0) (values place)) =
+    ap textOn (said place) ∙ ap (λ (k : ℕ). chartReport (chart place) (take k (values place))) (sym (sub-zero n)) in
+    as-report _ _ (args .out .now) (sym is) (c .before .before .report-chart .ensures)
 
 pub report-spec : {M : Type 1} → statement M
 report-spec =

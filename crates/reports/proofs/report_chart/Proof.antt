@@ -7,7 +7,6 @@ use native.Mathlib.Omega.{arith}
 use borrow.Author.Tests.{not-true, not-false}
 use lib.Ieee.{Float, binary64, ofBits}
 use lib.ListN.{length, take, replicate, length-replicate}
-use Rattle.laws.specs.Front.{atFrontIfRoom}
 use Rattle.rules.specs.Finite.{allFinite, finiteLimits}
 use Rattle.charts.specs.declared.Chart.{Chart}
 use Rattle.charts.specs.declared.Evaluated.{Evaluated}
@@ -17,9 +16,9 @@ use Rattle.charts.specs.Series.{pointsIn}
 use Rattle.charts.specs.Evaluating.{evaluated, evaluateOf, limitsOf, seriesMarks, lentAfter}
 use Rattle.charts.proofs.Answers.{number-some}
 use Rattle.reports.specs.Text.{rLine}
-use Rattle.reports.specs.Report.{refusalOf, roomFor}
+use Rattle.reports.specs.Report.{refusalOf}
 use Rattle.reports.specs.Steps.{size, Legal}
-use Rattle.reports.proofs.Rooms.{Told}
+use Rattle.reports.proofs.Rooms.{as-report}
 use Rattle.reports.proofs.Evaluations.{few-samples, points-fit, at-room, refused-so, done-so, main-limits, dispersion-limits}
 use Rattle.reports.proofs.Evaluations.{some-points, finite-limits, not-finite, report-refused, report-done}
 use Rattle.reports.proofs.Evaluations.{main-points, first-small, length-marks, marks-left}
@@ -96,15 +95,6 @@ others-are c n e =
     marks-left (chart (first c)) 1 (values (first c)) (replicate 2048 0) (others c) n
     (evaluating c .evaluate .ensures .1 .1 .1 .1 ∙ ap (left c 1) (c .e .given .1)) e
 
--- ---- a text that is told is the report's
-
-module _ (text report room : List ℕ) (is : text ≡ report) where
-  as-report : {answer : ℕ × ℕ} {after : List ℕ} → Told text room answer after → Told report room answer after
-  as-report e = (
-    e .0 ∙ ap (λ (x : List ℕ). roomFor x (length room)) is,
-    e .1 ∙ ap (λ (x : List ℕ). atFrontIfRoom x room) is,
-  )
-
 all-finite-requires : tie.Need-all-finite-requires
 all-finite-requires c κs = search needs
 
@@ -117,8 +107,11 @@ same-length c = search needs
 returns : tie.Need-returns
 returns c =
     let args = c .before .before .before .before .before .before .before .before .args in
-    let none = not-finite (args .chart) (args .values .now) (sym (c .before .before .before .before .before .all-finite .ensures) ∙ not-true _ (c .before .before .before .before .if1 .taken)) in
-    as-report _ _ (args .out .now) (report-refused (args .chart) (args .values .now) 3 none (λ e. omega arith)) (c .before .before .refuse .ensures)
+    let test = c .before .before .before .before in
+    let wrong = sym (test .before .all-finite .ensures) ∙ not-true _ (test .if1 .taken) in
+    as-report _ _ (args .out .now)
+    (report-refused (args .chart) (args .values .now) 3 (not-finite (args .chart) (args .values .now) wrong) (λ e. omega arith))
+    (c .before .before .refuse .ensures)
 
 slice-aggregate-evaluate : tie.Need-slice-aggregate-evaluate
 slice-aggregate-evaluate c = search needs
@@ -201,11 +194,12 @@ same-length-2 c = search needs
 returns-2 : tie.Need-returns-2
 returns-2 c =
     let why = c .before .before .before .before .before .before .why .given in
-    let s = start (c .before .before .before .before .before .before .before .before .before .before .before .before) in
-    let refused = refused-so (chart s) (legal s) (values s) (whole s) (finite s) (why .0 .0) (sym (ap evaluated (why .1)) ∙ answer (c .before .before .before .before .before .before .before .before .before .before .before .before)) in
-    as-report _ _ (s .before .before .before .before .args .out .now)
-    (ap rLine (c .before .before .before .before .number .ensures) ∙ report-refused (chart s) (values s) (number (why .0 .0)) refused (number-some (why .0 .0)))
-    (c .before .before .refuse2 .ensures)
+    let place = c .before .before .before .before .before .before .before .before .before .before .before .before in
+    let s = start place in
+    let is = sym (ap evaluated (why .1)) ∙ answer place in
+    let refused = refused-so (chart s) (legal s) (values s) (whole s) (finite s) (why .0 .0) is in
+    let told = report-refused (chart s) (values s) (number (why .0 .0)) refused (number-some (why .0 .0)) in
+    as-report _ _ (s .before .before .before .before .args .out .now) (ap rLine (c .before .before .before .before .number .ensures) ∙ told) (c .before .before .refuse2 .ensures)
 
 same-length-3 : tie.Need-same-length-3
 same-length-3 c = search needs

@@ -19,12 +19,14 @@ text c first =
     textOf (args .chart .kind) (args .chart .size) (args .chart .set .mask) (args .e .main) (args .e .dispersion) first (args .marks .now)
     (args .others .now)
 
-measured : (c : tie.After-measure-chart) → c .measure-chart .result .len ≡ length (text (c .before .before .before .before .before) (firstIndex (c .before .before .before .before .before .args .chart)))
+abbrev whole : tie.Start → List ℕ
+whole c = text c (firstIndex (c .args .chart))
+
+measured : (c : tie.After-measure-chart) → c .measure-chart .result .len ≡ length (whole (c .before .before .before .before .before))
 measured c =
-    let args = c .before .before .before .before .before .args in
-    let before = c .before .before .before .before .before in
-    c .measure-chart .ensures .bytes (args .e .main) (args .e .dispersion)
-    ∙ ap (λ (k : ℕ). length (text (before) k)) (c .before .first-index .ensures .0)
+    let start = c .before .before .before .before .before in
+    c .measure-chart .ensures .bytes (start .args .e .main) (start .args .e .dispersion)
+    ∙ ap (λ (k : ℕ). length (text start k)) (c .before .first-index .ensures .0)
 
 first-index-requires : tie.Need-first-index-requires
 first-index-requires c κs = search needs
@@ -34,9 +36,8 @@ measure-chart-requires c κs = search needs
 
 returns : tie.Need-returns
 returns c =
-    let args = c .before .before .before .before .before .before .before .args in
-    let before = c .before .before .before .before .before .before .before in
-    too-short (text (before) (firstIndex (args .chart))) (args .out .now) (omega (arith, measured (c .before .before), c .if1 .taken))
+    let start = c .before .before .before .before .before .before .before in
+    too-short (whole start) (start .args .out .now) (omega (arith, measured (c .before .before), c .if1 .taken))
 
 put-chart-requires : tie.Need-put-chart-requires
 put-chart-requires c κs =
@@ -55,16 +56,12 @@ same-length c = search needs
 
 returns-2 : tie.Need-returns-2
 returns-2 c =
-    let args = c .before .before .before .before .before .before .before .before .before .before .before .before .before .args in
-    let before = c .before .before .before .before .before .before .before .before .before .before .before .before .before in
-    let first-index = c .before .before .before .before .before .before .before .before .before .first-index in
-    let if1 = c .before .before .before .before .before .before .if1 in
+    let start = c .before .before .before .before .before .before .before .before .before .before .before .before .before in
+    let is = c .before .before .before .before .before .before .before .before .before .first-index .ensures .0 in
     let put-chart = c .before .before .put-chart in
-    let start = before in
-    let is = first-index .ensures .0 in
-    fits (text start (firstIndex (args .chart))) (args .out .now) (omega (arith, measured (c .before .before .before .before .before .before .before .before), if1 .left)) _ _
+    fits (whole start) (start .args .out .now) (omega (arith, measured (c .before .before .before .before .before .before .before .before), c .before .before .before .before .before .before .if1 .left)) _ _
     (put-chart .ensures .0 ∙ ap (λ (k : ℕ). length (text start k)) is)
-    (put-chart .ensures .1 ∙ ap (λ (k : ℕ). atFront (text start k) (args .out .now)) is)
+    (put-chart .ensures .1 ∙ ap (λ (k : ℕ). atFront (text start k) (start .args .out .now)) is)
 
 pub tell-spec : {M : Type 1} → statement M
 tell-spec =
