@@ -31,8 +31,8 @@ pub record Lengths (first : ℕ) (marks others : List ℕ) : Type 0 where
 
 -- ---- the text of a chart: whole, by the marks of its points; and in parts, what stands ahead of the marks, their lines
 
-abbrev pub textOf : ℕ → ℕ → ℕ → Limits → Limits → ℕ → List ℕ → List ℕ → List ℕ
-textOf kind size set main dispersion first marks others = chartText kind size set main dispersion (bothMarks first marks others)
+abbrev pub textBy : ℕ → ℕ → ℕ → Limits → Limits → ℕ → List ℕ → List ℕ → List ℕ
+textBy kind size set main dispersion first marks others = chartText kind size set main dispersion (bothMarks first marks others)
 
 abbrev pub headOf : ℕ → ℕ → ℕ → Limits → Limits → List ℕ
 headOf kind size set main dispersion = cLine kind size set ++ (lLine 0 main ++ lLine 1 dispersion)

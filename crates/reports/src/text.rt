@@ -11,7 +11,7 @@ ghost use Rattle.laws.specs.Bits.{hasBit};
 ghost use Rattle.rules.specs.Finite.{finiteLimits};
 ghost use Rattle.reports.specs.Text.{glyph as glyphOf, decimal, digits, spaced, line, lLine, eLine, rLine};
 ghost use Rattle.reports.specs.Text.{vLines, pointMarks, listed, bothMarks};
-ghost use Rattle.reports.specs.TextSteps.{wordOf, Measured, Lengths, textOf, headOf, linesOf, MeasuredText};
+ghost use Rattle.reports.specs.TextSteps.{wordOf, Measured, Lengths, textBy, headOf, linesOf, MeasuredText};
 
 // The character of a digit.
 fn glyph(d: u64) -> u8
@@ -345,12 +345,12 @@ pub fn put_chart(
     others: &[u16],
     lines: u64,
 ) -> usize
-    requires room { ⌜ length (textOf kind size set main dispersion first (now marks) (now others)) ≤ length (now out) ⌝ }
+    requires room { ⌜ length (textBy kind size set main dispersion first (now marks) (now others)) ≤ length (now out) ⌝ }
     requires finite { ⌜ (finiteLimits main ≡ true) × (finiteLimits dispersion ≡ true) ⌝ }
     requires lengths { ⌜ Lengths first (now marks) (now others) ⌝ }
     requires number { ⌜ lines ≡ length (bothMarks first (now marks) (now others)) ⌝ }
-    ensures count { λ r. ⌜ r ≡ length (textOf kind size set main dispersion first (now (marks .entry)) (now (others .entry))) ⌝ }
-    ensures room { λ r. ⌜ now (out .exit) ≡ atFront (textOf kind size set main dispersion first (now (marks .entry)) (now (others .entry))) (now (out .entry)) ⌝ }
+    ensures count { λ r. ⌜ r ≡ length (textBy kind size set main dispersion first (now (marks .entry)) (now (others .entry))) ⌝ }
+    ensures room { λ r. ⌜ now (out .exit) ≡ atFront (textBy kind size set main dispersion first (now (marks .entry)) (now (others .entry))) (now (out .entry)) ⌝ }
 {
     let a = put_head(out, kind, size, set, main, dispersion);
     let b = put_tail(&mut out[a..], first, marks, others, lines);

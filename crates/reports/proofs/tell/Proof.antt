@@ -6,7 +6,7 @@ use native.Mathlib.Omega.{arith}
 use lib.ListN.{length}
 use Rattle.laws.specs.Front.{atFront}
 use Rattle.reports.specs.Report.{firstIndex}
-use Rattle.reports.specs.TextSteps.{textOf}
+use Rattle.reports.specs.TextSteps.{textBy}
 use Rattle.reports.proofs.Rooms.{too-short, fits}
 use borrow.Author.Needs.{needs}
 use Rattle.reports.proofs.tell.Statement.{statement}
@@ -16,7 +16,7 @@ use Rattle.reports.proofs.tell.Tie as tie
 abbrev text : tie.Start → ℕ → List ℕ
 text c first =
     let args = c .args in
-    textOf (args .chart .kind) (args .chart .size) (args .chart .set .mask) (args .e .main) (args .e .dispersion) first (args .marks .now)
+    textBy (args .chart .kind) (args .chart .size) (args .chart .set .mask) (args .e .main) (args .e .dispersion) first (args .marks .now)
     (args .others .now)
 
 abbrev whole : tie.Start → List ℕ
