@@ -1,11 +1,11 @@
 -- The engine of marking, on numbers: the code of a value says how it lies to the lines and to the value before it, one bit for each
 -- comparison; the tests of a position are read off the fifteen codes that end there. Nothing here has to be believed: the proofs tie
 -- it to Marking.antt. Definitions only.
-use mathlib.Core.Bool.{Bool, true, false, _&&_, _||_}
+use mathlib.Core.Bool.{Bool, true, false, not, _&&_, _||_}
 use mathlib.Core.Path.{_≡_}
 use mathlib.Core.List.{List, [], _∷_, map}
 use Prim.Native.Nat.{ℕ, zero, suc, _+_, _-_, _%_}
-use lib.Dec.{leb}
+use lib.Dec.{leb, eqb}
 use lib.Bits.{bitAnd}
 use lib.Ieee.{Float, nan, le}
 use lib.ListN.{length, take, getD, replicate}
@@ -17,33 +17,38 @@ use Rattle.rules.specs.Tests.{over, under, rise, fall}
 
 -- ---- the code of a value
 
--- bits 0 to 11 for the value v, which comes after u: there is a value; it is beyond the limits; over, under the centre line; it rises,
--- falls; it is over, under one sigma; over, under two sigma; within one sigma; beyond one sigma
-unfoldable pub bitsOf : Lines → Float → Float → List Bool
-bitsOf l u v =
+-- Bits 0 to 11 for the value v, which comes after u: there is a value; it is beyond the limits; over, under the centre line; it rises,
+-- falls; it is over, under one sigma; over, under two sigma; within one sigma; beyond one sigma. Rising, falling, within and beyond one
+-- sigma are left out of a code that is not full.
+unfoldable pub bitsOf : Bool → Lines → Float → Float → List Bool
+bitsOf full l u v =
     true
     ∷ (over (l .ucl) v || under (l .lcl) v)
     ∷ over (l .cl) v
     ∷ under (l .cl) v
-    ∷ rise u v
-    ∷ fall u v
+    ∷ (full && rise u v)
+    ∷ (full && fall u v)
     ∷ over (l .above1) v
     ∷ under (l .below1) v
     ∷ over (l .above2) v
     ∷ under (l .below2) v
-    ∷ (le (l .below1) v && le v (l .above1))
-    ∷ (over (l .above1) v || under (l .below1) v)
+    ∷ (full && (le (l .below1) v && le v (l .above1)))
+    ∷ (full && (over (l .above1) v || under (l .below1) v))
     ∷ []
 
-unfoldable pub codeOf : Lines → Float → Float → ℕ
-codeOf l u v = fromBits (bitsOf l u v)
+unfoldable pub codeOf : Bool → Lines → Float → Float → ℕ
+codeOf full l u v = fromBits (bitsOf full l u v)
 
 -- the code at position i of a series; the first value comes after itself, so that it neither rises nor falls
-unfoldable pub codeAt : Lines → List Float → ℕ → ℕ
-codeAt l values i = codeOf l (getD values (i - 1) nan) (getD values i nan)
+unfoldable pub codeAt : Bool → Lines → List Float → ℕ → ℕ
+codeAt full l values i = codeOf full l (getD values (i - 1) nan) (getD values i nan)
 
-unfoldable pub codesOf : Lines → List Float → List ℕ
-codesOf l values = tabulate (codeAt l values) (length values)
+unfoldable pub codesOf : Bool → Lines → List Float → List ℕ
+codesOf full l values = tabulate (codeAt full l values) (length values)
+
+-- a set needs full codes unless it has none but the tests 0, 1, 4, 5 and 8
+abbrev pub needsFull : ℕ → Bool
+needsFull set = not (eqb (bitAnd set 307) set)
 
 -- a code in sixteen bits
 abbrev pub narrowed : List ℕ → ℕ → ℕ

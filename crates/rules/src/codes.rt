@@ -9,23 +9,31 @@ ghost use Rattle.laws.specs.Bits.{hasBit, fromBits};
 ghost use Rattle.laws.specs.Lists.{tabulate};
 ghost use Rattle.laws.specs.Front.{atFront};
 ghost use Rattle.rules.specs.Marking.{marksBy};
-ghost use Rattle.rules.specs.Codes.{codeOf, codesOf, narrowed, readOff, lastOf, marksRead, Room};
+ghost use Rattle.rules.specs.Codes.{needsFull, codeOf, codesOf, narrowed, readOff, lastOf, marksRead, Room};
+
+// Whether a set has a test that asks for a step to the value before, or for within or beyond one sigma. Codes without
+// the bits for these are made in less time.
+fn needs_full(set: u16) -> bool
+    ensures { λ r. ⌜ r ≡ needsFull set ⌝ }
+{
+    set & 307 != set
+}
 
 // How the value v, which comes after u, lies to the lines and to u.
-fn code_of(l: Lines, u: f64, v: f64) -> u64
-    ensures { λ r. ⌜ r ≡ codeOf l u v ⌝ }
+fn code_of(full: bool, l: Lines, u: f64, v: f64) -> u64
+    ensures { λ r. ⌜ r ≡ codeOf full l u v ⌝ }
 {
     let beyond = ((l.ucl < v) | (v < l.lcl)) as u64;
     let over = (l.cl < v) as u64;
     let under = (v < l.cl) as u64;
-    let rise = (u < v) as u64;
-    let fall = (v < u) as u64;
+    let rise = (full & (u < v)) as u64;
+    let fall = (full & (v < u)) as u64;
     let over1 = (l.above1 < v) as u64;
     let under1 = (v < l.below1) as u64;
     let over2 = (l.above2 < v) as u64;
     let under2 = (v < l.below2) as u64;
-    let within1 = ((l.below1 <= v) & (v <= l.above1)) as u64;
-    let beyond1 = ((l.above1 < v) | (v < l.below1)) as u64;
+    let within1 = (full & ((l.below1 <= v) & (v <= l.above1))) as u64;
+    let beyond1 = (full & ((l.above1 < v) | (v < l.below1))) as u64;
     1
         | (beyond << 1)
         | (over << 2)
@@ -41,9 +49,9 @@ fn code_of(l: Lines, u: f64, v: f64) -> u64
 }
 
 // The codes of every value. Numbers of 64 bits, as wide as the values, keep the loop to one comparison an instruction.
-fn codes(l: Lines, values: &[f64], out: &mut [u64])
+fn codes(full: bool, l: Lines, values: &[f64], out: &mut [u64])
     requires { ⌜ length (now values) ≤ length (now out) ⌝ }
-    ensures { λ _. ⌜ now (out .exit) ≡ atFront (codesOf l (now (values .entry))) (now (out .entry)) ⌝ }
+    ensures { λ _. ⌜ now (out .exit) ≡ atFront (codesOf full l (now (values .entry))) (now (out .entry)) ⌝ }
 {
     if values.len() == 0 {
         return;
@@ -52,7 +60,7 @@ fn codes(l: Lines, values: &[f64], out: &mut [u64])
     let mut i = 0;
     while i < values.len() {
         let v = values[i];
-        out[i] = code_of(l, before, v);
+        out[i] = code_of(full, l, before, v);
         before = v;
         i += 1;
     }
@@ -175,7 +183,8 @@ fn mark_in(l: Lines, set: u16, values: &[f64], wide: &mut [u64], c: &mut [u16], 
     requires { ⌜ Room (length (now values)) (now wide) (now c) × (length (now values) ≤ length (now out)) ⌝ }
     ensures { λ _. ⌜ now (out .exit) ≡ atFront (marksBy l set (now (values .entry))) (now (out .entry)) ⌝ }
 {
-    codes(l, values, wide);
+    let full = needs_full(set);
+    codes(full, l, values, wide);
     narrow(wide, &mut c[14..]);
     read_marks(set, c, out);
 }

@@ -1,13 +1,18 @@
 -- `rules::codes::mark_in` meets its contract: the codes stand behind the zeros, and the marks read off them are those of the series.
 -- Assumes nothing.
 use mathlib.Core.Path.{ap, _∙_}
+use mathlib.Core.Bool.{Bool}
 use mathlib.Core.List.{List}
 use Prim.Native.Nat.{ℕ}
 use Rattle.laws.specs.Front.{atFront}
+use Rattle.rules.specs.Codes.{codesOf, needsFull}
 use Rattle.rules.proofs.Marks.{codes-behind, all-marks}
 use borrow.Author.Needs.{needs}
 use Rattle.rules.proofs.codes.mark_in.Statement.{statement}
 use Rattle.rules.proofs.codes.mark_in.Tie as tie
+
+needs-full-requires : tie.Need-needs-full-requires
+needs-full-requires c κs = search needs
 
 codes-requires : tie.Need-codes-requires
 codes-requires c κs = search needs
@@ -38,17 +43,19 @@ same-length-3 c = search needs
 
 returns : tie.Need-returns
 returns c =
-    let a = c .before .before .before .before .before .before .before .before .before .before .before .before .before .before .before .before .before .before .args in
-    let room = c .before .before .before .before .before .before .before .before .before .before .before .before .before .before .before .before .before .before .pre .0 in
+    let a = c .before .before .before .before .before .before .before .before .before .before .before .before .before .before .before .before .before .before .before .args in
+    let full = needsFull (a .set) in
     c .before .before .read-marks .ensures
     ∙ ap (λ (marks : List ℕ). atFront marks (a .out .now))
     (all-marks (a .l) (a .values .now) (a .set) _
-    (codes-behind (a .l) (a .values .now) (a .wide .now) (a .c .now) room _ _ (c .before .before .before .before .before .before .before .before .before .before .before .before .codes .ensures) (c .before .before .before .before .before .before .before .narrow .ensures)))
+    (codes-behind full (a .l) (a .values .now) (a .wide .now) (a .c .now) (c .before .before .before .before .before .before .before .before .before .before .before .before .before .before .before .before .before .before .before .pre .0) _ _
+    (c .before .before .before .before .before .before .before .before .before .before .before .before .codes .ensures ∙ ap (λ (b : Bool). atFront (codesOf b (a .l) (a .values .now)) (a .wide .now)) (c .before .before .before .before .before .before .before .before .before .before .before .before .before .before .needs-full .ensures)) (c .before .before .before .before .before .before .before .narrow .ensures)))
 
 pub mark-in-spec : {M : Type 1} → statement M
 mark-in-spec =
     tie.close
     (tie.spec
+    needs-full-requires
     codes-requires
     sub-narrow
     part-narrow-start
