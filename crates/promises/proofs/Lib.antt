@@ -5,6 +5,7 @@ mod Groups
 mod Root
 mod Sets
 mod Rules
+mod Evidence
 mod Charts
 mod Sheets
 mod Reports

@@ -1,4 +1,4 @@
--- Marking and evidence. Of a part of a series a caller gets its block of memory, its place there and its values. Assumes nothing.
+-- Marking. Assumes nothing.
 use mathlib.Core.Path.{sym, ap₂, _∙_}
 use mathlib.Core.List.{List}
 use Prim.Native.Nat.{ℕ}
@@ -16,8 +16,6 @@ use Rattle.rules.proofs.finite.finite_limits.Reads as finite-limits
 use Rattle.rules.proofs.finite.finite_limits.Kinds as finite-limits-kinds
 use Rattle.rules.proofs.finite.all_finite.Reads as all-finite
 use Rattle.rules.proofs.finite.all_finite.Kinds as all-finite-kinds
-use Rattle.rules.proofs.evidence.evidence.Reads as evidence
-use Rattle.rules.proofs.evidence.evidence.Kinds as evidence-kinds
 use Rattle.promises.proofs.Coincide.{Coincide}
 
 mark-one : Coincide 2 mark-kinds.ps mark-kinds.r mark.Post {Seen = Marked × List ℕ} (λ κs x s. (x, now (s .1 .1 .1 .0)))
@@ -35,8 +33,3 @@ finite-limits-one κs a x y s t p q = p ∙ sym q
 
 all-finite-one : Coincide 1 all-finite-kinds.ps all-finite-kinds.r all-finite.Post (λ κs x s. x)
 all-finite-one κs a x y s t p q = p ∙ sym q
-
-evidence-one : Coincide 1 evidence-kinds.ps evidence-kinds.r evidence.Post {Seen = ℕ × ℕ × List Float} (λ κs x s. (x .ptr .0, x .ptr .1, now x))
-evidence-one κs a x y s t p q =
-    ap₂ (λ (u : ℕ) (v : ℕ × List Float). (u, v .0, v .1)) (p .block ∙ sym (q .block))
-    (ap₂ (λ (u : ℕ) (v : List Float). (u, v)) (p .place ∙ sym (q .place)) (p .values ∙ sym (q .values)))

@@ -8,5 +8,3 @@ mod AllFinite
 pub mod Accepted
 pub mod Meaning
 pub mod Answers
-mod Behind
-mod Spans

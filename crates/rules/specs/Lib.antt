@@ -4,5 +4,3 @@ pub mod Tests
 pub mod Finite
 pub mod Marking
 pub mod Codes
-pub mod Evidence
-pub mod Steps

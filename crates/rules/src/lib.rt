@@ -1,6 +1,5 @@
 // The nine tests on a series: what a mark means, and marking.
 mod codes;
-pub mod evidence;
 pub mod finite;
 
 use sets::RuleSet;

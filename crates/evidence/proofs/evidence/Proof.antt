@@ -1,12 +1,12 @@
--- `rules::evidence::evidence` meets its contract: each return is the part that the definition names. Assumes nothing.
+-- `evidence::evidence` meets its contract: each return is the part that the definition names. Assumes nothing.
 use mathlib.Core.Path.{_≡_, sym, ap, _∙_}
 use Prim.Native.Nat.{ℕ}
 use native.Mathlib.Omega.{arith}
-use Rattle.rules.specs.declared.evidence.Span.{Span}
-use Rattle.rules.proofs.Spans.{main-part, second-part, second-none, no-series}
+use Rattle.evidence.specs.declared.Span.{Span}
+use Rattle.evidence.proofs.Spans.{main-part, second-part, second-none, no-series}
 use borrow.Author.Needs.{needs}
-use Rattle.rules.proofs.evidence.evidence.Statement.{statement}
-use Rattle.rules.proofs.evidence.evidence.Tie as tie
+use Rattle.evidence.proofs.evidence.Statement.{statement}
+use Rattle.evidence.proofs.evidence.Tie as tie
 
 span-at-requires : tie.Need-span-at-requires
 span-at-requires c κs = search needs

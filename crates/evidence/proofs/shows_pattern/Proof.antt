@@ -1,4 +1,4 @@
--- `rules::evidence::shows_pattern` meets its contract: the window's last mark is its pattern's. Assumes nothing.
+-- `evidence::shows_pattern` meets its contract: the window's last mark is its pattern's. Assumes nothing.
 use mathlib.Core.Path.{_≡_, sym, ap, _∙_}
 use mathlib.Core.Bool.{Bool, not, _&&_, cond}
 use mathlib.Core.List.{List}
@@ -9,16 +9,16 @@ use lib.Ieee.{Float}
 use lib.ListN.{length, getD, replicate}
 use lib.Pow.{pow-lt}
 use Rattle.laws.proofs.OneBit.{one-shl}
 use Rattle.rules.specs.declared.Limits.{Limits}
 use Rattle.rules.specs.Tests.{window}
 use Rattle.rules.specs.Finite.{finiteLimits, allFinite}
 use Rattle.rules.specs.Marking.{answerOf, marksAfter}
-use Rattle.rules.specs.Evidence.{testOf}
+use Rattle.evidence.specs.Evidence.{testOf}
 use Rattle.rules.proofs.Accepted.{only-finite}
-use Rattle.rules.proofs.Behind.{window-least, window-most, last-mark, not-shown, shown-so}
+use Rattle.evidence.proofs.Behind.{window-least, window-most, last-mark, not-shown, shown-so}
 use borrow.Author.Needs.{needs}
-use Rattle.rules.proofs.evidence.shows_pattern.Statement.{statement}
-use Rattle.rules.proofs.evidence.shows_pattern.Tie as tie
+use Rattle.evidence.proofs.shows_pattern.Statement.{statement}
+use Rattle.evidence.proofs.shows_pattern.Tie as tie
 
 -- what marking the window answers
 by-finite : (limits : Limits) (bit : ℕ) (part : List Float) → bit < 9 → length part ≡ window (testOf bit)

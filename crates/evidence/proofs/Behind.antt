@@ -21,16 +21,16 @@ use Rattle.sets.specs.declared.Test.{Test}
 use Rattle.sets.specs.declared.Test.the-variants.{BeyondLimits}
 use Rattle.sets.specs.Sets.{bitOf, tests, has, setOf}
 use Rattle.sets.proofs.Sets.{agree, has-setOf, and-setOf}
 use Rattle.rules.specs.declared.Limits.{Limits}
 use Rattle.rules.specs.declared.Lines.{Lines}
 use Rattle.rules.specs.Lines.{linesOf}
 use Rattle.rules.specs.Tests.{window, shows}
 use Rattle.rules.specs.Finite.{allFinite, finiteLimits}
 use Rattle.rules.specs.Marking.{newestFirst, stands, marksAt, marksOf, answerOf, marksAfter}
-use Rattle.rules.specs.declared.evidence.Span.{Span}
-use Rattle.rules.specs.Evidence.{testOf, partTo, shownAt}
-use Rattle.rules.specs.Steps.{showsAlone, spanAt}
+use Rattle.evidence.specs.declared.Span.{Span}
+use Rattle.evidence.specs.Evidence.{testOf, partTo, shownAt}
+use Rattle.evidence.specs.Steps.{showsAlone, spanAt}
 use Rattle.rules.proofs.Meaning.{length-marks, marks-at}
 
 -- ---- the test of a bit
 

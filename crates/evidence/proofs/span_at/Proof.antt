@@ -1,10 +1,10 @@
--- `rules::evidence::span_at` meets its contract, by what is shown at the position. Assumes nothing.
+-- `evidence::span_at` meets its contract, by what is shown at the position. Assumes nothing.
 use mathlib.Core.Path.{sym, _∙_}
 use native.Mathlib.Omega.{arith}
-use Rattle.rules.proofs.Behind.{past-the-series, no-such-test, no-such-window, shown-by-part, no-span, a-span}
+use Rattle.evidence.proofs.Behind.{past-the-series, no-such-test, no-such-window, shown-by-part, no-span, a-span}
 use borrow.Author.Needs.{needs}
-use Rattle.rules.proofs.evidence.span_at.Statement.{statement}
-use Rattle.rules.proofs.evidence.span_at.Tie as tie
+use Rattle.evidence.proofs.span_at.Statement.{statement}
+use Rattle.evidence.proofs.span_at.Tie as tie
 
 returns : tie.Need-returns
 returns c = (sym (no-span (c .before .before .args .series .now) (c .before .before .args .limits) (c .before .before .args .at) (c .before .before .args .bit) (past-the-series (c .before .before .args .series .now) (c .before .before .args .limits) (c .before .before .args .at) (c .before .before .args .bit) (c .if1 .taken))), search needs, search needs)

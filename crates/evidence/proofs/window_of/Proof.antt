@@ -1,8 +1,8 @@
--- `rules::evidence::window_of` meets its contract: the table is the third column of 01's. Assumes nothing.
-use Rattle.rules.proofs.Behind.{window-at}
+-- `evidence::window_of` meets its contract: the table is the third column of 01's. Assumes nothing.
+use Rattle.evidence.proofs.Behind.{window-at}
 use borrow.Author.Needs.{needs}
-use Rattle.rules.proofs.evidence.window_of.Statement.{statement}
-use Rattle.rules.proofs.evidence.window_of.Tie as tie
+use Rattle.evidence.proofs.window_of.Statement.{statement}
+use Rattle.evidence.proofs.window_of.Tie as tie
 
 mul-result : tie.Need-mul-result
 mul-result c = search needs

@@ -1,13 +1,13 @@
 // The window behind a mark.
-use super::Limits;
-use super::mark;
+use rules::Limits;
+use rules::mark;
 use sets::RuleSet;
 ghost use mathlib.Core.Path.{_≡_};
 ghost use Prim.Native.Nat.{_≤_, _<_};
 ghost use lib.ListN.{length};
 ghost use Rattle.rules.specs.Tests.{window};
-ghost use Rattle.rules.specs.Evidence.{testOf, evidenceOf, IsPart};
-ghost use Rattle.rules.specs.Steps.{showsAlone, spanAt};
+ghost use Rattle.evidence.specs.Evidence.{testOf, evidenceOf, IsPart};
+ghost use Rattle.evidence.specs.Steps.{showsAlone, spanAt};
 
 // The third column of 01's table.
 const WINDOWS: [usize; 9] = [1, 9, 6, 14, 3, 5, 15, 8, 8];

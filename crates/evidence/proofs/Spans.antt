@@ -9,15 +9,15 @@ use lib.Dec.{leb, ltb, eqb}
 use lib.Ieee.{Float}
 use lib.ListN.{length, take}
 use Rattle.sets.specs.Sets.{tests}
 use Rattle.rules.specs.declared.Limits.{Limits}
-use Rattle.rules.specs.declared.evidence.Span.{Span}
+use Rattle.evidence.specs.declared.Span.{Span}
 use Rattle.rules.specs.Lines.{linesOf}
 use Rattle.rules.specs.Tests.{window, shows}
 use Rattle.rules.specs.Finite.{allFinite, finiteLimits}
 use Rattle.rules.specs.Marking.{newestFirst, stands}
-use Rattle.rules.specs.Evidence.{Part, nothing, testOf, partTo, shownAt, evidenceOf}
-use Rattle.rules.specs.Steps.{spanAt}
-use Rattle.rules.proofs.Behind.{length-newest}
+use Rattle.evidence.specs.Evidence.{Part, nothing, testOf, partTo, shownAt, evidenceOf}
+use Rattle.evidence.specs.Steps.{spanAt}
+use Rattle.evidence.proofs.Behind.{length-newest}
 
 abbrev pub spanned : Bool → Span → Part
 spanned second s = record { second = second; start = s .start; long = s .end - s .start }

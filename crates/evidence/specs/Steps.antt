@@ -4,13 +4,13 @@ use mathlib.Core.List.{List}
 use Prim.Native.Nat.{ℕ, suc, _-_}
 use lib.Ieee.{Float}
 use lib.ListN.{length}
 use Rattle.rules.specs.declared.Limits.{Limits}
-use Rattle.rules.specs.declared.evidence.Span.{Span}
+use Rattle.evidence.specs.declared.Span.{Span}
 use Rattle.rules.specs.Lines.{linesOf}
 use Rattle.rules.specs.Tests.{window, shows}
 use Rattle.rules.specs.Finite.{allFinite, finiteLimits}
 use Rattle.rules.specs.Marking.{newestFirst}
-use Rattle.rules.specs.Evidence.{testOf, shownAt}
+use Rattle.evidence.specs.Evidence.{testOf, shownAt}
 
 -- the values of a window and the limits are finite, and it shows the pattern
 abbrev pub showsAlone : Limits → ℕ → List Float → Bool

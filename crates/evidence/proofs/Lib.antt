@@ -1,0 +1,3 @@
+-- The laws of evidence.
+mod Behind
+mod Spans

@@ -1,0 +1,3 @@
+-- What the window behind a mark is, in the order in which to read it.
+pub mod Evidence
+pub mod Steps
