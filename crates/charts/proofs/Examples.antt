@@ -12,7 +12,8 @@ use Rattle.laws.specs.Lists.{tabulateFrom}
 use Rattle.laws.specs.Refusals.{firstOf}
 use Rattle.sets.specs.Sets.{bitOf, tests, has, setOf}
 use Rattle.rules.specs.declared.Limits.{Limits}
-use Rattle.rules.specs.Finite.{finite, allFinite, finiteLimits}
+use Rattle.floats.specs.Finite.{finite, allFinite}
+use Rattle.rules.specs.Finite.{finiteLimits}
 use Rattle.rules.specs.Lines.{oneSigma, twoSigma, linesOf}
 use Rattle.rules.specs.Tests.{steps, alternating, window, shows}
 use Rattle.rules.specs.Marking.{newestFirst, stands, marksAt, marksOf}

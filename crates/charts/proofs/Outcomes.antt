@@ -17,7 +17,8 @@ use Rattle.laws.specs.Front.{atFront}
 use Rattle.laws.proofs.Lists.{length-tabulate}
 use Rattle.laws.proofs.Refusals.{passed, refused, none-applies, accepted}
 use Rattle.rules.specs.declared.Limits.{Limits}
-use Rattle.rules.specs.Finite.{allFinite, finiteLimits}
+use Rattle.floats.specs.Finite.{allFinite}
+use Rattle.rules.specs.Finite.{finiteLimits}
 use Rattle.rules.specs.Marking.{marksOf, answerOf}
 use Rattle.rules.proofs.Accepted.{accepts}
 use Rattle.charts.specs.declared.Chart.{Chart}

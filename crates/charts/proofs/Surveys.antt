@@ -10,7 +10,7 @@ use lib.Ieee.{Float}
 use lib.ListN.{length}
 use Rattle.laws.specs.Refusals.{firstOf}
 use Rattle.laws.proofs.Refusals.{passed, accepted}
-use Rattle.rules.specs.Finite.{allFinite}
+use Rattle.floats.specs.Finite.{allFinite}
 use Rattle.charts.specs.declared.Chart.{Chart}
 use Rattle.charts.specs.declared.Refusal.{Refusal}
 use Rattle.charts.specs.declared.limits.Measured.{Measured}

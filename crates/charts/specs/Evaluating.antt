@@ -11,7 +11,7 @@ use Rattle.laws.specs.Refusals.{firstOf}
 use Rattle.laws.specs.Front.{atFront}
 use Rattle.sets.specs.Sets.{tests, has}
 use Rattle.rules.specs.declared.Limits.{Limits}
-use Rattle.rules.specs.Finite.{allFinite}
+use Rattle.floats.specs.Finite.{allFinite}
 use Rattle.rules.specs.Marking.{marksOf}
 use Rattle.charts.specs.declared.Chart.{Chart}
 use Rattle.charts.specs.declared.Evaluated.{Evaluated}

@@ -7,7 +7,7 @@ use lib.Dec.{eqb}
 use lib.Ieee.{Float, binary64, add, sub, mul, div}
 use lib.ListN.{length}
 use Rattle.laws.specs.Refusals.{firstOf}
-use Rattle.rules.specs.Finite.{allFinite}
+use Rattle.floats.specs.Finite.{allFinite}
 use Rattle.charts.specs.declared.Chart.{Chart}
 use Rattle.charts.specs.declared.Figure.{Figure}
 use Rattle.charts.specs.declared.Figure.the-variants.{Done, Refused}

@@ -75,7 +75,7 @@ pub fn check(
         return Tested::Refused(Refusal::TooShort);
     }
     let end = c.count * c.size;
-    if !rules::finite::all_finite(&values[0..end]) {
+    if !floats::all_finite(&values[0..end]) {
         return Tested::Refused(Refusal::NotFinite);
     }
     Tested::Passed

@@ -195,7 +195,7 @@ impl Chart {
         if sample.len() != self.size {
             return Changed::Refused(Refusal::Length);
         }
-        if !rules::finite::all_finite(sample) {
+        if !floats::all_finite(sample) {
             return Changed::Refused(Refusal::NotFinite);
         }
         if 4096 <= self.count {

@@ -3,7 +3,6 @@ use super::Chart;
 use super::arith;
 use super::factors;
 use rules::Limits;
-use rules::finite;
 ghost use mathlib.Core.Path.{_≡_};
 ghost use mathlib.Core.Bool.{false};
 ghost use Prim.Native.Nat.{_<_};
@@ -70,7 +69,7 @@ fn limits_from(c: Chart, m: f64, d: f64, points: bool) -> Measured
 {
     let main = main_limits(c, m, d);
     let dispersion = dispersion_limits(c, d);
-    let finite = finite::finite_limits(main) & finite::finite_limits(dispersion);
+    let finite = rules::finite_limits(main) & rules::finite_limits(dispersion);
     Measured {
         main: main,
         dispersion: dispersion,
@@ -83,6 +82,6 @@ pub fn limits_of(c: Chart, main: &[f64], dispersion: &[f64]) -> Measured
     requires { ⌜ ownWrong c ≡ false ⌝ }
     ensures { λ r. ⌜ r ≡ measuredOf c (now (main .entry)) (now (dispersion .entry)) ⌝ }
 {
-    let points = finite::all_finite(main) & finite::all_finite(dispersion);
+    let points = floats::all_finite(main) & floats::all_finite(dispersion);
     limits_from(c, arith::mean(main), arith::mean(dispersion), points)
 }

@@ -1,7 +1,7 @@
 -- The window behind a mark, marked as a series of its own by a set with one test: it gets that mark exactly where the window in its
 -- series shows the pattern. Assumes nothing.
 use mathlib.Core.Path.{_≡_, refl, sym, ap, ap₂, _∙_}
-use mathlib.Core.Bool.{Bool, true, false, not, _&&_, cond}
+use mathlib.Core.Bool.{Bool, true, false, not, _&&_, cond, and-false}
 use mathlib.Core.List.{List, [], _∷_, map}
 use Prim.Native.Nat.{ℕ, zero, suc, _+_, _-_, _^_, _≤_, _<_}
 use native.Mathlib.Nat.{add-suc, le-of-suc-le-suc}
@@ -25,7 +25,8 @@ use Rattle.rules.specs.declared.Limits.{Limits}
 use Rattle.rules.specs.declared.Lines.{Lines}
 use Rattle.rules.specs.Lines.{linesOf}
 use Rattle.rules.specs.Tests.{window, shows}
-use Rattle.rules.specs.Finite.{allFinite, finiteLimits}
+use Rattle.floats.specs.Finite.{allFinite}
+use Rattle.rules.specs.Finite.{finiteLimits}
 use Rattle.rules.specs.Marking.{newestFirst, stands, marksAt, marksOf, answerOf, marksAfter}
 use Rattle.evidence.specs.declared.Span.{Span}
 use Rattle.evidence.specs.Evidence.{testOf, partTo, shownAt}
@@ -157,22 +158,18 @@ shown-so false a x y n e h is = absurd (omega arith)
 -- ---- what is shown at a position
 
 module _ (series : List Float) (limits : Limits) (at bit : ℕ) where
-  and-none : (a : Bool) → (a && false) ≡ false
-  and-none true = refl
-  and-none false = refl
-
   pub past-the-series : length series ≤ at → shownAt series limits at bit ≡ false
   unfolding shownAt
   past-the-series h = simp (le-ltb at (length series) h)
 
   pub no-such-test : 9 ≤ bit → shownAt series limits at bit ≡ false
   unfolding shownAt tests
-  no-such-test h = simp (le-ltb bit 9 h, and-none)
+  no-such-test h = simp (le-ltb bit 9 h, and-false)
 
   pub no-such-window : suc at < window (testOf bit) → shownAt series limits at bit ≡ false
   unfolding shownAt stands
   no-such-window h =
-      simp (lt-leb (window (testOf bit)) (length (newestFirst series (suc at))) (omega (arith, length-newest series (suc at))), and-none)
+      simp (lt-leb (window (testOf bit)) (length (newestFirst series (suc at))) (omega (arith, length-newest series (suc at))), and-false)
 
   pub shown-by-window : at < length series → bit < 9 → window (testOf bit) ≤ suc at
       → shownAt series limits at bit

@@ -13,7 +13,8 @@ use Rattle.rules.specs.declared.Limits.{Limits}
 use Rattle.evidence.specs.declared.Span.{Span}
 use Rattle.rules.specs.Lines.{linesOf}
 use Rattle.rules.specs.Tests.{window, shows}
-use Rattle.rules.specs.Finite.{allFinite, finiteLimits}
+use Rattle.floats.specs.Finite.{allFinite}
+use Rattle.rules.specs.Finite.{finiteLimits}
 use Rattle.rules.specs.Marking.{newestFirst, stands}
 use Rattle.evidence.specs.Evidence.{Part, nothing, testOf, partTo, shownAt, evidenceOf}
 use Rattle.evidence.specs.Steps.{spanAt}

@@ -13,7 +13,8 @@ use Rattle.sets.specs.Sets.{tests}
 use Rattle.rules.specs.declared.Limits.{Limits}
 use Rattle.rules.specs.Lines.{linesOf}
 use Rattle.rules.specs.Tests.{window}
-use Rattle.rules.specs.Finite.{allFinite, finiteLimits}
+use Rattle.floats.specs.Finite.{allFinite}
+use Rattle.rules.specs.Finite.{finiteLimits}
 use Rattle.rules.specs.Marking.{newestFirst, stands}
 
 -- a part of one of two series: of which, where it starts, how long it is

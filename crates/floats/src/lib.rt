@@ -1,6 +1,7 @@
-// What a pattern of 64 bits means as an f64, for every pattern.
+// What a pattern of 64 bits means as an f64, for every pattern, and whether values are finite.
 ghost use mathlib.Core.Path.{_≡_};
 ghost use lib.Ieee.{binary64, ofBits};
+ghost use Rattle.floats.specs.Finite.{finite, allFinite};
 
 /// The f64 of a pattern of 64 bits. Each pattern of a NaN gives a NaN; which one is not said.
 ///
@@ -14,4 +15,25 @@ pub fn of_bits(pattern: u64) -> f64
         return 0.0 / 0.0;
     }
     f64::from_bits(pattern)
+}
+
+/// Whether a value is neither a NaN nor an infinity.
+pub fn is_finite(v: f64) -> bool
+    ensures { λ r. ⌜ r ≡ finite v ⌝ }
+{
+    (v < 1.0 / 0.0) & (-1.0 / 0.0 < v)
+}
+
+/// Whether all values are finite.
+pub fn all_finite(values: &[f64]) -> bool
+    ensures { λ r. ⌜ r ≡ allFinite (now (values .entry)) ⌝ }
+{
+    // Going on behind a value that is not lets the loop take several at a time.
+    let mut all = true;
+    let mut i = 0;
+    while i < values.len() {
+        all = all & is_finite(values[i]);
+        i += 1;
+    }
+    all
 }

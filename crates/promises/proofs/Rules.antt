@@ -3,19 +3,14 @@ use mathlib.Core.Path.{sym, ap₂, _∙_}
 use mathlib.Core.List.{List}
 use Prim.Native.Nat.{ℕ}
 use denote.Ref.{now}
-use lib.Ieee.{Float}
 use Rattle.rules.specs.declared.Marked.{Marked}
 use Rattle.rules.proofs.Answers.{numbered-one}
 use Rattle.rules.proofs.mark.Reads as mark
 use Rattle.rules.proofs.mark.Kinds as mark-kinds
 use Rattle.rules.proofs.Marked.number.Reads as number
 use Rattle.rules.proofs.Marked.number.Kinds as number-kinds
-use Rattle.rules.proofs.finite.is_finite.Reads as is-finite
-use Rattle.rules.proofs.finite.is_finite.Kinds as is-finite-kinds
-use Rattle.rules.proofs.finite.finite_limits.Reads as finite-limits
-use Rattle.rules.proofs.finite.finite_limits.Kinds as finite-limits-kinds
-use Rattle.rules.proofs.finite.all_finite.Reads as all-finite
-use Rattle.rules.proofs.finite.all_finite.Kinds as all-finite-kinds
+use Rattle.rules.proofs.finite_limits.Reads as finite-limits
+use Rattle.rules.proofs.finite_limits.Kinds as finite-limits-kinds
 use Rattle.promises.proofs.Coincide.{Coincide}
 
 mark-one : Coincide 2 mark-kinds.ps mark-kinds.r mark.Post {Seen = Marked × List ℕ} (λ κs x s. (x, now (s .1 .1 .1 .0)))
@@ -25,11 +20,5 @@ mark-one κs a x y s t p q =
 number-one : Coincide 0 number-kinds.ps number-kinds.r number.Post (λ κs x s. x)
 number-one κs a x y s t p q = p ∙ sym q
 
-is-finite-one : Coincide 0 is-finite-kinds.ps is-finite-kinds.r is-finite.Post (λ κs x s. x)
-is-finite-one κs a x y s t p q = p ∙ sym q
-
 finite-limits-one : Coincide 0 finite-limits-kinds.ps finite-limits-kinds.r finite-limits.Post (λ κs x s. x)
 finite-limits-one κs a x y s t p q = p ∙ sym q
-
-all-finite-one : Coincide 1 all-finite-kinds.ps all-finite-kinds.r all-finite.Post (λ κs x s. x)
-all-finite-one κs a x y s t p q = p ∙ sym q

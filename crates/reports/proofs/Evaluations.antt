@@ -16,7 +16,8 @@ use Rattle.laws.specs.Refusals.{firstOf}
 use Rattle.laws.proofs.Lists.{length-tabulate}
 use Rattle.laws.proofs.Refusals.{accepted}
 use Rattle.rules.specs.declared.Limits.{Limits}
-use Rattle.rules.specs.Finite.{allFinite, finiteLimits}
+use Rattle.floats.specs.Finite.{allFinite}
+use Rattle.rules.specs.Finite.{finiteLimits}
 use Rattle.charts.specs.declared.Chart.{Chart}
 use Rattle.charts.specs.declared.Refusal.{Refusal}
 use Rattle.charts.specs.declared.Evaluation.{Evaluation}

@@ -8,7 +8,8 @@ use lib.Dec.{T}
 use lib.Ieee.{Float, nan, inf, fin, binary64, toBits, isNan}
 use lib.ListN.{length, length-append}
 use Rattle.rules.specs.declared.Limits.{Limits}
-use Rattle.rules.specs.Finite.{finite, finiteLimits}
+use Rattle.floats.specs.Finite.{finite}
+use Rattle.rules.specs.Finite.{finiteLimits}
 use Rattle.reports.specs.Text.{decimal, digits, spaced, lLine}
 use Rattle.reports.specs.TextSteps.{wordOf}
 use Rattle.reports.proofs.Digits.{length-digits}

@@ -7,7 +7,7 @@ use lib.Dec.{eqb, leb}
 use lib.Ieee.{Float}
 use lib.ListN.{length}
 use Rattle.laws.specs.Refusals.{firstOf}
-use Rattle.rules.specs.Finite.{allFinite}
+use Rattle.floats.specs.Finite.{allFinite}
 use Rattle.charts.specs.declared.Chart.{Chart}
 use Rattle.charts.specs.Records.{byKind}
 use Rattle.charts.specs.Evaluating.{tooFew, at7, limitsOf, seriesMarks}

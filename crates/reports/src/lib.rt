@@ -113,7 +113,7 @@ fn report_chart(chart: Chart, values: &[f64], out: &mut [u8]) -> Reported
     ensures answer { λ r. ⌜ reported r ≡ roomFor (chartReport chart (now (values .entry))) (length (now (out .entry))) ⌝ }
     ensures room { λ r. ⌜ now (out .exit) ≡ atFrontIfRoom (chartReport chart (now (values .entry))) (now (out .entry)) ⌝ }
 {
-    if !rules::finite::all_finite(values) {
+    if !floats::all_finite(values) {
         return refuse(3, out);
     }
     let mut main = [0.0f64; 2048];

@@ -11,7 +11,8 @@ use lib.ListN.{length}
 use Rattle.laws.specs.Refusals.{firstOf}
 use Rattle.laws.proofs.Refusals.{accepted}
 use Rattle.rules.specs.declared.Limits.{Limits}
-use Rattle.rules.specs.Finite.{allFinite, finiteLimits}
+use Rattle.floats.specs.Finite.{allFinite}
+use Rattle.rules.specs.Finite.{finiteLimits}
 use Rattle.rules.specs.Marking.{answerOf}
 
 pub record Accepted (limits : Limits) (set : ℕ) (values : List Float) (room : ℕ) : Type 0 where

@@ -1,7 +1,7 @@
 -- The tests of a position by ands, ors and shifts of its fifteen codes, as `standing` makes them, are what is read off the codes.
 -- Assumes nothing.
 use mathlib.Core.Path.{_≡_, refl, sym, ap, ap₂, _∙_}
-use mathlib.Core.Bool.{Bool, true, false, _&&_, _||_, Bool·beq, false≢true}
+use mathlib.Core.Bool.{Bool, true, false, _&&_, _||_, Bool·beq, false≢true, and-true, and-assoc}
 use mathlib.Core.List.{List, [], _∷_}
 use Prim.Native.Nat.{ℕ, _/_, _^_}
 use native.Mathlib.Nat.{add-zero}
@@ -11,11 +11,6 @@ use Rattle.laws.specs.Bools.{every, count}
 use Rattle.laws.specs.Bits.{hasBit}
 use Rattle.laws.proofs.Bits.{has-and, has-or, has-shr}
 use Rattle.rules.specs.Codes.{column, first, byTurns, some, readOff}
-use Rattle.rules.proofs.Windows.{and-true}
-
-pub and-assoc : (a b c : Bool) → ((a && b) && c) ≡ (a && (b && c))
-and-assoc true b c = refl
-and-assoc false b c = refl
 
 both : (a b : Bool) → (a && b) ≡ true → (a ≡ true) × (b ≡ true)
 both true true h = (refl, refl)

@@ -4,7 +4,6 @@ mod ReadOff
 mod Bitwise
 mod Marks
 mod Single
-mod AllFinite
 pub mod Accepted
 pub mod Meaning
 pub mod Answers

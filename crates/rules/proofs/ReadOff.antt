@@ -1,6 +1,6 @@
 -- What is read off the fifteen codes that end at a position are the tests of the set that stand there. Assumes nothing.
 use mathlib.Core.Path.{_≡_, refl, sym, ap, ap₂, _∙_, fun-ext}
-use mathlib.Core.Bool.{Bool, true, false, not, _&&_, _||_, false≢true}
+use mathlib.Core.Bool.{Bool, true, false, not, _&&_, _||_, false≢true, and-or-distrib-left}
 use mathlib.Core.List.{List, [], _∷_, map}
 use Prim.Native.Nat.{ℕ, zero, suc, _*_, _≤_}
 use native.Mathlib.Omega.{arith}
@@ -20,7 +20,7 @@ use Rattle.rules.specs.declared.Lines.{Lines}
 use Rattle.rules.specs.Tests.{over, under, all, atLeast, rise, fall, steps, alternating, window, shows}
 use Rattle.rules.specs.Marking.{stands}
 use Rattle.rules.specs.Codes.{bitsOf, codeOf, needsFull, column, first, byTurns, some, readOff}
-use Rattle.rules.proofs.Windows.{and-or, behind, pad, all-fits, some-fit, window-fits, steps-fit, way, turns-fit}
+use Rattle.rules.proofs.Windows.{behind, pad, all-fits, some-fit, window-fits, steps-fit, way, turns-fit}
 
 -- the n codes that end at the newest value, newest first, with zero where no value is
 abbrev pub lately : Bool → Lines → ℕ → List Float → List ℕ
@@ -83,7 +83,7 @@ module _ (full : Bool) (l : Lines) (past : List Float) where
   run-either : (s t n : ℕ) (p q : Float → Bool) → Says full l s p → Says full l t q → n ≤ 15
       → (first n (column s codes) || first n (column t codes)) ≡ (leb n (length past) && (all p (take n past) || all q (take n past)))
   run-either s t n p q one other h =
-      ap₂ _||_ (run s n p one h) (run t n q other h) ∙ sym (and-or (leb n (length past)) (all p (take n past)) (all q (take n past)))
+      ap₂ _||_ (run s n p one h) (run t n q other h) ∙ sym (and-or-distrib-left (leb n (length past)) (all p (take n past)) (all q (take n past)))
 
   -- at least k of a window that fits, of one bit or of another
   counted : (s t k n : ℕ) (p q : Float → Bool) → Says full l s p → Says full l t q → Says full l 0 (λ v. true) → n ≤ 15
@@ -143,14 +143,14 @@ module _ (l : Lines) (past : List Float) where
       ≡ (leb (suc (suc n)) (length past) && (every (steps rise (take (suc (suc n)) past)) || every (steps fall (take (suc (suc n)) past))))
   trend n h =
       ap₂ _||_ (ap (first (suc n)) ups ∙ steps-fit rise n 15 past h) (ap (first (suc n)) downs ∙ steps-fit fall n 15 past h)
-      ∙ sym (and-or (leb (suc (suc n)) (length past)) (every (steps rise (take (suc (suc n)) past))) (every (steps fall (take (suc (suc n)) past))))
+      ∙ sym (and-or-distrib-left (leb (suc (suc n)) (length past)) (every (steps rise (take (suc (suc n)) past))) (every (steps fall (take (suc (suc n)) past))))
 
   -- all steps of a window by turns
   turns : (n : ℕ) → suc n ≤ 15 → (byTurns (suc n) (column 4 full-codes) (column 5 full-codes) || byTurns (suc n) (column 5 full-codes) (column 4 full-codes))
       ≡ (leb (suc (suc n)) (length past) && (alternating true (take (suc (suc n)) past) || alternating false (take (suc (suc n)) past)))
   turns n h =
       ap₂ _||_ (ap₂ (byTurns (suc n)) ups downs ∙ turns-fit true n 15 past h) (ap₂ (byTurns (suc n)) downs ups ∙ turns-fit false n 15 past h)
-      ∙ sym (and-or (leb (suc (suc n)) (length past)) (alternating true (take (suc (suc n)) past)) (alternating false (take (suc (suc n)) past)))
+      ∙ sym (and-or-distrib-left (leb (suc (suc n)) (length past)) (alternating true (take (suc (suc n)) past)) (alternating false (take (suc (suc n)) past)))
 
   six-trend : (first 5 (column 4 full-codes) || first 5 (column 5 full-codes)) ≡ stands l past SixTrend
   unfolding stands window shows

@@ -1,6 +1,6 @@
 -- The marks of a set that has no test but the first: whether the value lies beyond the limits. Assumes nothing.
 use mathlib.Core.Path.{_≡_, refl, sym, ap, ap₂, _∙_}
-use mathlib.Core.Bool.{Bool, _&&_, _||_}
+use mathlib.Core.Bool.{Bool, _&&_, _||_, and-true}
 use mathlib.Core.List.{List}
 use Prim.Native.Nat.{ℕ, suc, _+_, _*_, _%_, _≤_, _<_}
 use native.Mathlib.Nat.{mod-eq-of-lt}
@@ -19,7 +19,6 @@ use Rattle.sets.proofs.Sets.{and-setOf}
 use Rattle.rules.specs.declared.Lines.{Lines}
 use Rattle.rules.specs.Tests.{over, under, window, shows}
 use Rattle.rules.specs.Marking.{newestFirst, stands, marksAt}
-use Rattle.rules.proofs.Windows.{and-true}
 
 -- of the number of some tests only the first counts
 and-first : (set : ℕ) (p : Test → Bool) → set < 2 → bitAnd set (setOf p) ≡ bitAnd set (one (p BeyondLimits))

@@ -1,7 +1,7 @@
 -- Windows that fit, told from a list of yes and no that is filled up with no: all of a window, all its steps, its steps by turns, so
 -- many of it. Assumes nothing.
 use mathlib.Core.Path.{_≡_, refl, sym, ap, ap₂, _∙_}
-use mathlib.Core.Bool.{Bool, true, false, not, _&&_, _||_, cond}
+use mathlib.Core.Bool.{Bool, true, false, not, _&&_, _||_, cond, and-true}
 use mathlib.Core.List.{List, [], _∷_, map}
 use Prim.Native.Nat.{ℕ, zero, suc, _≤_, _<_}
 use native.Mathlib.Nat.{le-of-suc-le-suc}
@@ -17,18 +17,10 @@ use Rattle.rules.specs.Codes.{first, byTurns, some}
 
 -- ---- yes and no
 
-pub and-or : (a b c : Bool) → (a && (b || c)) ≡ ((a && b) || (a && c))
-and-or true b c = refl
-and-or false b c = refl
-
 and-swap : (a b c : Bool) → (a && (b && c)) ≡ (b && (a && c))
 and-swap true b c = refl
 and-swap false true c = refl
 and-swap false false c = refl
-
-pub and-true : (a : Bool) → (a && true) ≡ a
-and-true true = refl
-and-true false = refl
 
 -- what stands behind a yes matters only where it is one
 pub behind : (a b c : Bool) → (a ≡ true → b ≡ c) → (a && b) ≡ (a && c)

@@ -17,7 +17,8 @@ use Rattle.rules.specs.declared.Marked.{Marked}
 use Rattle.rules.specs.declared.Marked.the-variants.{Done, TooMany, SetTooLarge, NotFinite, TooShort}
 use Rattle.rules.specs.Lines.{linesOf}
 use Rattle.rules.specs.Tests.{window, shows}
-use Rattle.rules.specs.Finite.{allFinite, finiteLimits}
+use Rattle.floats.specs.Finite.{allFinite}
+use Rattle.rules.specs.Finite.{finiteLimits}
 
 -- ---- marks
 

@@ -11,12 +11,14 @@ ghost use Rattle.laws.specs.Front.{atFront};
 ghost use Rattle.rules.specs.Marking.{marksBy};
 ghost use Rattle.rules.specs.Codes.{needsFull, codeOf, codesOf, narrowed, readOff, lastOf, marksRead, Room};
 
-// Whether a set has a test that asks for a step to the value before, or for within or beyond one sigma. Codes without
-// the bits for these are made in less time.
+// Tests 0, 1, 4, 5 and 8: all that ask neither for a step to the value before nor for within or beyond one sigma.
+const LEVELS: u16 = 0b1_0011_0011;
+
+// Whether a set has another test than these. If not, its codes need fewer bits and are made in less time.
 fn needs_full(set: u16) -> bool
     ensures { λ r. ⌜ r ≡ needsFull set ⌝ }
 {
-    set & 307 != set
+    set & LEVELS != set
 }
 
 // How the value v, which comes after u, lies to the lines and to u.

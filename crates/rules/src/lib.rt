@@ -1,11 +1,11 @@
 // The nine tests on a series: what a mark means, and marking.
 mod codes;
-pub mod finite;
 
 use sets::RuleSet;
 ghost use mathlib.Core.Path.{_≡_};
 ghost use lib.ListN.{length};
 ghost use Rattle.rules.specs.Lines.{linesOf};
+ghost use Rattle.rules.specs.Finite.{finiteLimits};
 ghost use Rattle.rules.specs.Marking.{numbered, answerOf, marksAfter};
 
 /// Control limits: the upper limit, the centre line, the lower limit.
@@ -55,6 +55,16 @@ impl Marked {
     }
 }
 
+/// Whether all three limits are finite.
+pub fn finite_limits(l: Limits) -> bool
+    ensures { λ r. ⌜ r ≡ finiteLimits l ⌝ }
+{
+    let upper = floats::is_finite(l.ucl);
+    let centre = floats::is_finite(l.cl);
+    let lower = floats::is_finite(l.lcl);
+    (upper & centre) & lower
+}
+
 // The lines of the limits.
 fn lines_of(l: Limits) -> Lines
     ensures { λ r. ⌜ r ≡ linesOf l ⌝ }
@@ -82,10 +92,10 @@ fn answer(values: &[f64], limits: Limits, set: RuleSet, room: usize) -> Marked
     if 511 < set.mask {
         return Marked::SetTooLarge;
     }
-    if !finite::finite_limits(limits) {
+    if !finite_limits(limits) {
         return Marked::NotFinite;
     }
-    if !finite::all_finite(values) {
+    if !floats::all_finite(values) {
         return Marked::NotFinite;
     }
     if room < values.len() {

@@ -22,7 +22,8 @@ use Rattle.sets.specs.declared.Test.{Test}
 use Rattle.sets.specs.Sets.{has}
 use Rattle.rules.specs.declared.Limits.{Limits}
 use Rattle.rules.specs.Lines.{linesOf}
-use Rattle.rules.specs.Finite.{finiteLimits, allFinite}
+use Rattle.floats.specs.Finite.{allFinite}
+use Rattle.rules.specs.Finite.{finiteLimits}
 use Rattle.rules.specs.Marking.{newestFirst, stands, marksOf}
 use Rattle.rules.proofs.Accepted.{accepts}
 use Rattle.rules.proofs.Meaning.{marked, length-marks, marks-at}

@@ -15,7 +15,8 @@ use Rattle.laws.specs.Front.{atFrontIfRoom}
 use Rattle.laws.proofs.Refusals.{passed, refused}
 use Rattle.groups.proofs.Numbers.{Bytes}
 use Rattle.rules.specs.declared.Limits.{Limits}
-use Rattle.rules.specs.Finite.{finiteLimits, allFinite}
+use Rattle.floats.specs.Finite.{allFinite}
+use Rattle.rules.specs.Finite.{finiteLimits}
 use Rattle.rules.specs.declared.Marked.{Marked}
 use Rattle.rules.specs.Marking.{numbered, answerOf, marksOf, marksAfter}
 use Rattle.rules.proofs.Meaning.{length-marks}

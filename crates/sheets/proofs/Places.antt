@@ -19,7 +19,8 @@ use Rattle.groups.specs.Groups.{groups, Front, some, none, before, front, readA
 use Rattle.groups.proofs.Strings.{before-zero, before-some, front-one, front-more}
 use Rattle.groups.proofs.Numbers.{read-some, read-over, read-there}
 use Rattle.rules.specs.declared.Limits.{Limits}
-use Rattle.rules.specs.Finite.{finiteLimits, allFinite}
+use Rattle.floats.specs.Finite.{allFinite}
+use Rattle.rules.specs.Finite.{finiteLimits}
 use Rattle.rules.specs.Lines.{linesOf}
 use Rattle.rules.specs.Marking.{answerOf, marksAt, marksOf}
 use Rattle.rules.proofs.Accepted.{was-accepted}

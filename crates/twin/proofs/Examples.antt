@@ -11,7 +11,8 @@ use Rattle.laws.specs.Lists.{tabulateFrom}
 use Rattle.laws.specs.Refusals.{firstOf}
 use Rattle.groups.specs.Groups.{groups, numberAt}
 use Rattle.rules.specs.declared.Limits.{Limits}
-use Rattle.rules.specs.Finite.{finite, finiteLimits, allFinite}
+use Rattle.floats.specs.Finite.{finite, allFinite}
+use Rattle.rules.specs.Finite.{finiteLimits}
 use Rattle.rules.specs.Marking.{answerOf, marksOf}
 use Rattle.sheets.specs.Sheet.{marked, entriesOf, sheetOf}
 use Rattle.sheets.specs.Said.{entries, saidFrom}

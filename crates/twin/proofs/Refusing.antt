@@ -13,7 +13,8 @@ use Rattle.laws.specs.Refusals.{firstOf}
 use Rattle.laws.specs.Front.{atFront}
 use Rattle.laws.proofs.Refusals.{passed, none-applies, accepted}
 use Rattle.rules.specs.declared.Limits.{Limits}
-use Rattle.rules.specs.Finite.{finiteLimits, allFinite}
+use Rattle.floats.specs.Finite.{allFinite}
+use Rattle.rules.specs.Finite.{finiteLimits}
 use Rattle.rules.specs.Marking.{answerOf, marksOf, marksAfter}
 use Rattle.rules.proofs.Accepted.{was-accepted, accepts}
 use Rattle.sheets.specs.Answers.{checkOf, writeOf, roomAfter}

@@ -11,7 +11,8 @@ use lib.Pow.{pow-lt}
 use Rattle.laws.proofs.OneBit.{one-shl}
 use Rattle.rules.specs.declared.Limits.{Limits}
 use Rattle.rules.specs.Tests.{window}
-use Rattle.rules.specs.Finite.{finiteLimits, allFinite}
+use Rattle.floats.specs.Finite.{allFinite}
+use Rattle.rules.specs.Finite.{finiteLimits}
 use Rattle.rules.specs.Marking.{answerOf, marksAfter}
 use Rattle.evidence.specs.Evidence.{testOf}
 use Rattle.rules.proofs.Accepted.{only-finite}

@@ -7,7 +7,8 @@ use native.Mathlib.Omega.{arith}
 use borrow.Author.Tests.{not-true, not-false}
 use lib.Ieee.{Float, binary64, ofBits}
 use lib.ListN.{length, take, replicate, length-replicate}
-use Rattle.rules.specs.Finite.{allFinite, finiteLimits}
+use Rattle.floats.specs.Finite.{allFinite}
+use Rattle.rules.specs.Finite.{finiteLimits}
 use Rattle.charts.specs.declared.Chart.{Chart}
 use Rattle.charts.specs.declared.Evaluated.{Evaluated}
 use Rattle.charts.specs.declared.Evaluated.the-variants.{Done}

@@ -3,7 +3,8 @@ use mathlib.Core.Path.{_≡_, sym, _∙_}
 use mathlib.Core.Bool.{true, false}
 use borrow.Author.Tests.{lt-ltb, le-ltb, not-true, not-false}
 use Rattle.laws.specs.Refusals.{firstOf}
-use Rattle.rules.specs.Finite.{finiteLimits, allFinite}
+use Rattle.floats.specs.Finite.{allFinite}
+use Rattle.rules.specs.Finite.{finiteLimits}
 use Rattle.rules.specs.Marking.{answerOf}
 use borrow.Author.Needs.{needs}
 use Rattle.rules.proofs.answer.Statement.{statement}

@@ -5,7 +5,7 @@ use native.Mathlib.Nat.{sub-zero}
 use native.Mathlib.Omega.{arith}
 use lib.ListN.{length, take}
 use Rattle.laws.proofs.Refusals.{passed, refused, none-applies}
-use Rattle.rules.specs.Finite.{allFinite}
+use Rattle.floats.specs.Finite.{allFinite}
 use Rattle.charts.proofs.Cases.{told, told-not}
 use Rattle.charts.proofs.Held.{held}
 use Rattle.charts.proofs.Outcomes.{some-held}

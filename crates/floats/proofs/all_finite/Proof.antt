@@ -1,11 +1,11 @@
--- `rules::finite::all_finite` meets its contract: what was seen and the rest together say what the whole says. Assumes nothing.
+-- `floats::all_finite` meets its contract: what was seen and the rest together say what the whole says. Assumes nothing.
 use mathlib.Core.Path.{refl}
 use Prim.Native.Nat.{_≤_, _-_}
 use borrow.Author.Needs.{needs}
 use lib.ListN.{length}
-use Rattle.rules.proofs.AllFinite.{Seen, seen-next, seen-all}
-use Rattle.rules.proofs.finite.all_finite.Statement.{statement}
-use Rattle.rules.proofs.finite.all_finite.Tie as tie
+use Rattle.floats.proofs.AllFinite.{Seen, seen-next, seen-all}
+use Rattle.floats.proofs.all_finite.Statement.{statement}
+use Rattle.floats.proofs.all_finite.Tie as tie
 
 abbrev Inv-loop : tie.InvT-loop
 Inv-loop values all₀ i₀ all i = (i ≤ length values) × Seen values i all

@@ -1,6 +1,6 @@
 -- Finite or not, one value after the other: what was seen so far and the rest together say what the whole says. Assumes nothing.
 use mathlib.Core.Path.{_≡_, sym, _∙_}
-use mathlib.Core.Bool.{Bool, _&&_}
+use mathlib.Core.Bool.{Bool, _&&_, and-true, and-assoc}
 use mathlib.Core.List.{List}
 use Prim.Native.Nat.{ℕ, suc, _+_, _≤_, _<_}
 use native.Mathlib.Numerals.{add-one}
@@ -8,9 +8,7 @@ use lib.Ieee.{Float, nan}
 use lib.ListN.{length, drop, getD, drop-of-length-le}
 use lib.Seq.{drop-cons}
 use Rattle.laws.specs.Bools.{every}
-use Rattle.rules.specs.Finite.{finite, allFinite}
-use Rattle.rules.proofs.Windows.{and-true}
-use Rattle.rules.proofs.Bitwise.{and-assoc}
+use Rattle.floats.specs.Finite.{finite, allFinite}
 
 -- `seen` says it of the values before `i`
 abbrev pub Seen : List Float → ℕ → Bool → Type 0

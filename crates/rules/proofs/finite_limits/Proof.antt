@@ -1,8 +1,8 @@
--- `rules::finite::finite_limits` meets its contract, by what `is_finite` says of each. Assumes nothing.
+-- `rules::finite_limits` meets its contract, by what `is_finite` says of each. Assumes nothing.
 use Rattle.rules.specs.Finite.{finiteLimits}
 use borrow.Author.Needs.{needs}
-use Rattle.rules.proofs.finite.finite_limits.Statement.{statement}
-use Rattle.rules.proofs.finite.finite_limits.Tie as tie
+use Rattle.rules.proofs.finite_limits.Statement.{statement}
+use Rattle.rules.proofs.finite_limits.Tie as tie
 
 is-finite-requires : tie.Need-is-finite-requires
 is-finite-requires c κs = search needs

@@ -1,10 +1,10 @@
--- `rules::finite::is_finite` meets its contract, by the three kinds of float. Assumes nothing.
+-- `floats::is_finite` meets its contract, by the three kinds of float. Assumes nothing.
 use mathlib.Core.Path.{_≡_, refl}
 use mathlib.Core.Bool.{Bool, true, false, _&&_}
 use lib.Ieee.{Float, nan, inf, fin, lt, div, neg, ofBits}
-use Rattle.rules.specs.Finite.{finite}
-use Rattle.rules.proofs.finite.is_finite.Statement.{statement}
-use Rattle.rules.proofs.finite.is_finite.Tie as tie
+use Rattle.floats.specs.Finite.{finite}
+use Rattle.floats.proofs.is_finite.Statement.{statement}
+use Rattle.floats.proofs.is_finite.Tie as tie
 
 between : (v : Float) → (lt v (inf false) && lt (inf true) v) ≡ finite v
 unfolding lt finite

@@ -1,0 +1,2 @@
+-- The laws of finite values.
+mod AllFinite

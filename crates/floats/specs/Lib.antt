@@ -1,0 +1,2 @@
+-- What it means that values are finite.
+pub mod Finite
