@@ -8,6 +8,7 @@ use borrow.Author.Tests.{leb-true, lt-leb}
 use lib.Dec.{leb, ltb, eqb}
 use lib.Ieee.{Float}
 use lib.ListN.{length, take}
+use Rattle.laws.proofs.Bools.{both}
 use Rattle.sets.specs.Sets.{tests}
 use Rattle.rules.specs.declared.Limits.{Limits}
 use Rattle.evidence.specs.declared.Span.{Span}
@@ -23,17 +24,6 @@ use Rattle.evidence.proofs.Behind.{length-newest}
 abbrev pub spanned : Bool → Span → Part
 spanned second s = record { second = second; start = s .start; long = s .end - s .start }
 
-last-yes : (a b c d e : Bool) → (a && (b && (c && (d && e)))) ≡ true → e ≡ true
-last-yes true true true true e h = h
-last-yes true true true false e h = absurd (false≢true h)
-last-yes true true false d e h = absurd (false≢true h)
-last-yes true false c d e h = absurd (false≢true h)
-last-yes false b c d e h = absurd (false≢true h)
-
-first-yes : (a b : Bool) → (a && b) ≡ true → a ≡ true
-first-yes true b h = refl
-first-yes false b h = h
-
 module _ (series : List Float) (limits : Limits) (at bit : ℕ) where
   -- what is shown fits
   shown-fits : shownAt series limits at bit ≡ true → window (testOf bit) ≤ suc at
@@ -41,9 +31,7 @@ module _ (series : List Float) (limits : Limits) (at bit : ℕ) where
   shown-fits h =
       let past = newestFirst series (suc at) in
       let w = window (testOf bit) in
-      let fits : leb w (length past) ≡ true =
-      first-yes (leb w (length past)) (shows (testOf bit) (linesOf limits) (take w past))
-      (last-yes (ltb at (length series)) (ltb bit (length tests)) (finiteLimits limits) (allFinite (partTo w at series)) _ h) in
+      let fits : leb w (length past) ≡ true = both _ _ (both _ _ (both _ _ (both _ _ (both _ _ h .1) .1) .1) .1) .0 in
       omega (arith, leb-true w (length past) fits, length-newest series (suc at))
 
   -- the part, by whether the pattern is shown

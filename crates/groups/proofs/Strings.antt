@@ -7,20 +7,12 @@ use mathlib.Core.List.{List, [], _∷_, _++_}
 use lib.ListN.{length}
 use lib.Dec.{ltb, eqb}
 use borrow.Author.Tests.{lt-ltb, le-ltb, ltb-true, ltb-false, ne-eqb, eq-eqb}
+use Rattle.laws.proofs.Digits.{by-digits}
 use Rattle.groups.specs.Groups.{groupsIn, groups, Front, some, none, before, front}
 
 -- Whatever holds of a number of one group, and of a longer one where it holds of the groups after the first, holds of every number.
-module _ (P : ℕ → Type 0) (one : (x : ℕ) → x < 128 → P x) (more : (x : ℕ) → 128 ≤ x → P (x / 128) → P x) where
-  by-size : (k x : ℕ) (t : Bool) → ltb x 128 ≡ t → x ≤ suc k → ((y : ℕ) → y ≤ k → P y) → P x
-  by-size k x true e h ih = one x (ltb-true x 128 e)
-  by-size k x false e h ih = more x (ltb-false x 128 e) (ih (x / 128) (omega (arith, ltb-false x 128 e)))
-
-  up-to : (k x : ℕ) → x ≤ k → P x
-  up-to zero x h = one x (omega arith)
-  up-to (suc k) x h = by-size k x (ltb x 128) refl h (up-to k)
-
-  pub by-groups : (x : ℕ) → P x
-  by-groups x = up-to x x (omega arith)
+pub by-groups : (P : ℕ → Type 0) → ((x : ℕ) → x < 128 → P x) → ((x : ℕ) → 128 ≤ x → P (x / 128) → P x) → (x : ℕ) → P x
+by-groups = by-digits 128 (omega arith)
 
 -- ---- the string of a number
 

@@ -1,7 +1,9 @@
 -- Laws that more than one part cites.
+pub mod Bools
 pub mod Bits
 pub mod OneBit
 pub mod FirstBits
+pub mod Digits
 pub mod Lists
 pub mod Filling
 pub mod Lending

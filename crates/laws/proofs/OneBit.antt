@@ -21,7 +21,7 @@ bit-zero n = ap (λ (m : ℕ). eqb (m % 2) 1) (div-one n)
 bit-suc : (n k : ℕ) → hasBit n (suc k) ≡ hasBit (n / 2) k
 bit-suc n k = sym (has-shr n 1 k ∙ ap (hasBit n) (one-add k))
 
-no-bit : (k : ℕ) → hasBit 0 k ≡ false
+pub no-bit : (k : ℕ) → hasBit 0 k ≡ false
 unfolding hasBit
 no-bit k = rw zero-div refl
 

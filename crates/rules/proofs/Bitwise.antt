@@ -1,7 +1,7 @@
 -- The tests of a position by ands, ors and shifts of its fifteen codes, as `standing` makes them, are what is read off the codes.
 -- Assumes nothing.
 use mathlib.Core.Path.{_≡_, refl, sym, ap, ap₂, _∙_}
-use mathlib.Core.Bool.{Bool, true, false, _&&_, _||_, Bool·beq, false≢true, and-true, and-assoc}
+use mathlib.Core.Bool.{Bool, true, false, _&&_, _||_, Bool·beq, and-true, and-assoc}
 use mathlib.Core.List.{List, [], _∷_}
 use Prim.Native.Nat.{ℕ, _/_, _^_}
 use native.Mathlib.Nat.{add-zero}
@@ -9,13 +9,9 @@ use lib.Bits.{bitAnd, bitOr}
 use lib.Dec.{leb}
 use Rattle.laws.specs.Bools.{every, count}
 use Rattle.laws.specs.Bits.{hasBit}
+use Rattle.laws.proofs.Bools.{both}
 use Rattle.laws.proofs.Bits.{has-and, has-or, has-shr}
 use Rattle.rules.specs.Codes.{column, first, byTurns, some, readOff}
-
-both : (a b : Bool) → (a && b) ≡ true → (a ≡ true) × (b ≡ true)
-both true true h = (refl, refl)
-both true false h = (refl, h)
-both false b h = (h, absurd (false≢true h))
 
 same : (a b : Bool) → Bool·beq a b ≡ true → a ≡ b
 same true true h = refl

@@ -1,6 +1,6 @@
 -- What a mark means, test by test and for every test at once; a mark is inside the set; the marks of a prefix. Assumes nothing.
 use mathlib.Core.Path.{_≡_, refl, sym, ap, ap₂, _∙_, fun-ext}
-use mathlib.Core.Bool.{Bool, true, false, _&&_}
+use mathlib.Core.Bool.{Bool, _&&_, and-self-left}
 use mathlib.Core.List.{List, [], _∷_}
 use Prim.Native.Nat.{ℕ, zero, suc, _≤_, _<_}
 use native.Mathlib.Omega.{arith}
@@ -18,10 +18,6 @@ use Rattle.rules.specs.declared.Lines.{Lines}
 use Rattle.rules.specs.Lines.{linesOf}
 use Rattle.rules.specs.Marking.{newestFirst, stands, marksAt, marksOf}
 
-and-twice : (a b : Bool) → (a && (a && b)) ≡ (a && b)
-and-twice true b = refl
-and-twice false b = refl
-
 module _ (l : Lines) (set : ℕ) (values : List Float) (i : ℕ) where
   -- A test is marked at a position exactly where the set has it and its window that ends there fits and shows its pattern.
   pub marked : (t : Test) → has (marksAt l set values i) t ≡ (has set t && stands l (newestFirst values (suc i)) t)
@@ -34,7 +30,7 @@ module _ (l : Lines) (set : ℕ) (values : List Float) (i : ℕ) where
   marks-inside =
       let past = newestFirst values (suc i) in
       and-comm (marksAt l set values i) set
-      ∙ and-setOf set (λ t. has set t && stands l past t) ∙ ap setOf (fun-ext (λ t. and-twice (has set t) (stands l past t)))
+      ∙ and-setOf set (λ t. has set t && stands l past t) ∙ ap setOf (fun-ext (λ t. and-self-left (has set t) (stands l past t)))
 
   -- And it is a set's number.
   pub marks-lt : marksAt l set values i < 512

@@ -12,6 +12,7 @@ use lib.ListN.{length, take, getD}
 use Rattle.laws.specs.Bools.{every}
 use Rattle.laws.specs.Bits.{hasBit, fromBits}
 use Rattle.laws.proofs.Bits.{has-and, has-fromBits}
+use Rattle.laws.proofs.OneBit.{no-bit}
 use Rattle.sets.specs.declared.Test.{Test}
 use Rattle.sets.specs.declared.Test.the-variants.{BeyondLimits, NineOneSide, SixTrend, FourteenAlternating, TwoOfThreeBeyond2Sigma, FourOfFiveBeyond1Sigma, FifteenWithin1Sigma, EightBeyond1Sigma, EightOneSide}
 use Rattle.sets.specs.Sets.{bitOf, tests, has, setOf}
@@ -35,10 +36,6 @@ has-code : (full : Bool) (l : Lines) (u v : Float) (s : ℕ) → hasBit (codeOf 
 unfolding codeOf
 has-code full l u v s = has-fromBits (bitsOf full l u v) s
 
-no-code : (s : ℕ) → hasBit 0 s ≡ false
-unfolding fromBits
-no-code s = has-fromBits [] s
-
 -- no value is above itself
 pub not-above : (v : Float) → lt v v ≡ false
 unfolding lt
@@ -56,7 +53,7 @@ module _ (full : Bool) (l : Lines) (s : ℕ) where
   -- a bit that speaks of the value alone
   column-of : (p : Float → Bool) → Says full l s p → (n : ℕ) (past : List Float) → column s (lately full l n past) ≡ pad n (map p past)
   column-of p says zero past = refl
-  column-of p says (suc n) [] = ap₂ _∷_ (no-code s) (column-of p says n [])
+  column-of p says (suc n) [] = ap₂ _∷_ (no-bit s) (column-of p says n [])
   column-of p says (suc n) (v ∷ []) = ap₂ _∷_ (has-code full l v v s ∙ says v v) (column-of p says n [])
   column-of p says (suc n) (v ∷ u ∷ w) = ap₂ _∷_ (has-code full l u v s ∙ says u v) (column-of p says n (u ∷ w))
 
@@ -65,7 +62,7 @@ module _ (full : Bool) (l : Lines) (s : ℕ) where
       → (n : ℕ) (past : List Float) → column s (lately full l n past) ≡ pad n (steps r past)
   unfolding steps
   column-step r says level zero past = refl
-  column-step r says level (suc n) [] = ap₂ _∷_ (no-code s) (column-step r says level n [])
+  column-step r says level (suc n) [] = ap₂ _∷_ (no-bit s) (column-step r says level n [])
   column-step r says level (suc n) (v ∷ []) = ap₂ _∷_ (has-code full l v v s ∙ says v v ∙ level v) (column-step r says level n [])
   column-step r says level (suc n) (v ∷ u ∷ w) = ap₂ _∷_ (has-code full l u v s ∙ says u v) (column-step r says level n (u ∷ w))
 
