@@ -39,7 +39,26 @@ compared a b false tells = by (same a b) refl
     by false e = e
     by true e = absurd (let yes : false ≡ true = tells .1 (same-one a b e) in let z : _≡_ {A = ℕ} 0 1 = cc in omega arith)
 
--- ---- the three names
+-- ---- the three names, compared in their order
+
+module _ (name : List ℕ) where
+  pub first-named : same name shewhart ≡ true → setNamed name ≡ (0, 1)
+  unfolding setNamed firstOf
+  first-named p = simp p
+
+  pub second-named : same name shewhart ≡ false → same name nelson ≡ true → setNamed name ≡ (0, 255)
+  unfolding setNamed firstOf
+  second-named p q = simp (p, q)
+
+  pub third-named : same name shewhart ≡ false → same name nelson ≡ false → same name westernElectric ≡ true
+      → setNamed name ≡ (0, 305)
+  unfolding setNamed firstOf
+  third-named p q r = simp (p, q, r)
+
+  pub none-named : same name shewhart ≡ false → same name nelson ≡ false → same name westernElectric ≡ false
+      → setNamed name ≡ (13, 0)
+  unfolding setNamed firstOf
+  none-named p q r = simp (p, q, r)
 
 pub shewhart-named : setNamed shewhart ≡ (0, 1)
 unfolding setNamed firstOf same
@@ -56,8 +75,7 @@ western-electric-named = refl
 -- every other name is refused
 pub other-named : (name : List ℕ) → (name ≡ shewhart → ⊥) → (name ≡ nelson → ⊥) → (name ≡ westernElectric → ⊥)
     → setNamed name ≡ (13, 0)
-unfolding setNamed firstOf
-other-named name p q r = simp (differs shewhart p, differs nelson q, differs westernElectric r)
+other-named name p q r = none-named name (differs shewhart p) (differs nelson q) (differs westernElectric r)
   where
     differs : (other : List ℕ) → (name ≡ other → ⊥) → same name other ≡ false
     differs other ne =

@@ -1,9 +1,8 @@
 -- `RuleSet::named` meets its contract: the name is compared with each of the three. Assumes nothing.
-use mathlib.Core.Path.{_≡_}
-use mathlib.Core.Bool.{true, false}
+use mathlib.Core.Path.{sym, ap, _∙_}
+use Prim.Native.Nat.{ℕ}
 use borrow.Author.Needs.{needs}
-use Rattle.laws.specs.Refusals.{firstOf}
-use Rattle.sets.specs.Calls.{same, shewhart, nelson, westernElectric, setNamed}
+use Rattle.sets.proofs.Names.{first-named, second-named, third-named, none-named}
 use Rattle.sets.proofs.RuleSet.named.Statement.{statement}
 use Rattle.sets.proofs.RuleSet.named.Tie as tie
 
@@ -17,11 +16,7 @@ shewhart-requires : tie.Need-shewhart-requires
 shewhart-requires c κs = search needs
 
 returns : tie.Need-returns
-unfolding setNamed firstOf
-returns c =
-    let name = c .before .before .before .before .before .args .name .now in
-    let first : same name shewhart ≡ true = cc in
-    simp first (cc)
+returns c = ap (λ (m : ℕ). (0, m)) (c .shewhart .ensures) ∙ sym (first-named _ (sym (c .before .before .spelt .ensures) ∙ c .before .if1 .taken))
 
 slice-aggregate-spelt-2 : tie.Need-slice-aggregate-spelt-2
 slice-aggregate-spelt-2 c = search needs
@@ -33,12 +28,10 @@ nelson-requires : tie.Need-nelson-requires
 nelson-requires c κs = search needs
 
 returns-2 : tie.Need-returns-2
-unfolding setNamed firstOf
 returns-2 c =
-    let name = c .before .before .before .before .before .before .before .before .args .name .now in
-    let first : same name shewhart ≡ false = cc in
-    let second : same name nelson ≡ true = cc in
-    simp (first, second) (cc)
+    ap (λ (m : ℕ). (0, m)) (c .nelson .ensures) ∙ sym (second-named _
+    (sym (c .before .before .before .before .before .spelt .ensures) ∙ c .before .before .before .before .if1 .left)
+    (sym (c .before .before .spelt2 .ensures) ∙ c .before .if2 .taken))
 
 slice-aggregate-spelt-3 : tie.Need-slice-aggregate-spelt-3
 slice-aggregate-spelt-3 c = search needs
@@ -50,22 +43,20 @@ western-electric-requires : tie.Need-western-electric-requires
 western-electric-requires c κs = search needs
 
 returns-3 : tie.Need-returns-3
-unfolding setNamed firstOf
 returns-3 c =
-    let name = c .before .before .before .before .before .before .before .before .before .before .before .args .name .now in
-    let first : same name shewhart ≡ false = cc in
-    let second : same name nelson ≡ false = cc in
-    let third : same name westernElectric ≡ true = cc in
-    simp (first, second, third) (cc)
+    ap (λ (m : ℕ). (0, m)) (c .western-electric .ensures) ∙ sym (third-named _
+    (sym (c .before .before .before .before .before .before .before .before .spelt .ensures)
+    ∙ c .before .before .before .before .before .before .before .if1 .left)
+    (sym (c .before .before .before .before .before .spelt2 .ensures) ∙ c .before .before .before .before .if2 .left)
+    (sym (c .before .before .spelt3 .ensures) ∙ c .before .if3 .taken))
 
 returns-4 : tie.Need-returns-4
-unfolding setNamed firstOf
 returns-4 c =
-    let name = c .before .before .before .before .before .before .before .before .before .before .args .name .now in
-    let first : same name shewhart ≡ false = cc in
-    let second : same name nelson ≡ false = cc in
-    let third : same name westernElectric ≡ false = cc in
-    simp (first, second, third)
+    sym (none-named _
+    (sym (c .before .before .before .before .before .before .before .spelt .ensures)
+    ∙ c .before .before .before .before .before .before .if1 .left)
+    (sym (c .before .before .before .before .spelt2 .ensures) ∙ c .before .before .before .if2 .left)
+    (sym (c .before .spelt3 .ensures) ∙ c .if3 .left))
 
 pub named-spec : {M : Type 1} → statement M
 named-spec =
