@@ -31,7 +31,11 @@ module _ (series : List Float) (limits : Limits) (at bit : ℕ) where
   shown-fits h =
       let past = newestFirst series (suc at) in
       let w = window (testOf bit) in
-      let fits : leb w (length past) ≡ true = both _ _ (both _ _ (both _ _ (both _ _ (both _ _ h .1) .1) .1) .1) .0 in
+      let in-range = both (ltb at (length series)) _ h .1 in
+      let sound = both (ltb bit (length tests)) _ in-range .1 in
+      let finite = both (finiteLimits limits) _ sound .1 in
+      let there = both (allFinite (partTo w at series)) _ finite .1 in
+      let fits : leb w (length past) ≡ true = both (leb w (length past)) _ there .0 in
       omega (arith, leb-true w (length past) fits, length-newest series (suc at))
 
   -- the part, by whether the pattern is shown

@@ -1,12 +1,13 @@
 -- Names of sets: the three spellings and no other are taken. Assumes nothing.
 use mathlib.Core.Path.{_≡_, refl, sym, ap, ap₂, _∙_}
-use mathlib.Core.Bool.{Bool, true, false, _&&_}
+use mathlib.Core.Bool.{Bool, true, false, _&&_, false≢true}
 use mathlib.Core.List.{List, [], _∷_}
 use Prim.Native.Nat.{ℕ}
 use native.Mathlib.Omega.{arith}
 use lib.Dec.{eqb}
 use borrow.Author.Tests.{eqb-true, eq-eqb}
 use Rattle.laws.specs.Refusals.{firstOf}
+use Rattle.laws.proofs.Bools.{both}
 use Rattle.sets.specs.Calls.{same, shewhart, nelson, westernElectric, setNamed}
 
 -- ---- spelt the same
@@ -16,16 +17,11 @@ unfolding same
 same-self [] = refl
 same-self (x ∷ xs) = ap₂ _&&_ (eq-eqb x x refl) (same-self xs)
 
--- both of two that hold together
-both : (a b : Bool) → (a && b) ≡ true → (a ≡ true) × (b ≡ true)
-both true b e = (refl, e)
-both false b e = absurd (let z : _≡_ {A = ℕ} 0 1 = cc in omega arith)
-
 pub same-one : (a b : List ℕ) → same a b ≡ true → a ≡ b
 unfolding same
 same-one [] [] e = refl
-same-one [] (y ∷ ys) e = absurd (let z : _≡_ {A = ℕ} 0 1 = cc in omega arith)
-same-one (x ∷ xs) [] e = absurd (let z : _≡_ {A = ℕ} 0 1 = cc in omega arith)
+same-one [] (y ∷ ys) e = absurd (false≢true e)
+same-one (x ∷ xs) [] e = absurd (false≢true e)
 same-one (x ∷ xs) (y ∷ ys) e =
     let holds = both (eqb x y) (same xs ys) e in
     ap₂ _∷_ (eqb-true x y (holds .0)) (same-one xs ys (holds .1))
@@ -37,7 +33,7 @@ compared a b false tells = by (same a b) refl
   where
     by : (t : Bool) → same a b ≡ t → same a b ≡ false
     by false e = e
-    by true e = absurd (let yes : false ≡ true = tells .1 (same-one a b e) in let z : _≡_ {A = ℕ} 0 1 = cc in omega arith)
+    by true e = absurd (false≢true (tells .1 (same-one a b e)))
 
 -- ---- the three names, compared in their order
 
@@ -79,4 +75,4 @@ other-named name p q r = none-named name (differs shewhart p) (differs nelson q)
   where
     differs : (other : List ℕ) → (name ≡ other → ⊥) → same name other ≡ false
     differs other ne =
-        compared name other false ((λ e. absurd (let z : _≡_ {A = ℕ} 0 1 = cc in omega arith)), (λ e. absurd (ne e)))
+        compared name other false ((λ e. absurd (false≢true e)), (λ e. absurd (ne e)))

@@ -1,6 +1,6 @@
 -- `floats::of_bits` meets its contract: past its sign, a pattern is a NaN's exactly if it is above that of infinity. Assumes nothing.
 use mathlib.Core.Path.{_≡_, refl, sym, subst, _∙_}
-use mathlib.Core.Bool.{Bool, true, not}
+use mathlib.Core.Bool.{Bool, true, not, false≢true}
 use Prim.Native.Nat.{ℕ, _*_, _%_}
 use native.Mathlib.Omega.{arith}
 use lib.Dec.{T}
@@ -16,8 +16,8 @@ use Rattle.floats.proofs.of_bits.Tie as tie
 is-nan : (v : Float) → isNan v ≡ true → nan ≡ v
 unfolding isNan
 is-nan nan h = refl
-is-nan (inf s) h = absurd (let z : _≡_ {A = ℕ} 0 1 = cc in omega arith)
-is-nan (fin s m e) h = absurd (let z : _≡_ {A = ℕ} 0 1 = cc in omega arith)
+is-nan (inf s) h = absurd (false≢true h)
+is-nan (fin s m e) h = absurd (false≢true h)
 
 returns : tie.Need-returns
 unfolding div ofBits
