@@ -14,6 +14,7 @@ use lib.Seq.{take-at}
 use Rattle.laws.specs.Refusals.{firstOf}
 use Rattle.laws.specs.Lists.{tabulate}
 use Rattle.laws.specs.Front.{atFront}
+use Rattle.laws.proofs.Bools.{both}
 use Rattle.laws.proofs.Lists.{length-tabulate}
 use Rattle.laws.proofs.Refusals.{passed, refused, none-applies, accepted}
 use Rattle.rules.specs.declared.Limits.{Limits}
@@ -176,14 +177,6 @@ pub record Sound (c : Chart) (values : List Float) : Type 0 where
   pub main-limits : finiteLimits (measured c values .main) ≡ true
   pub dispersion-limits : finiteLimits (measured c values .dispersion) ≡ true
 
-and-left : (p q : Bool) → (p && q) ≡ true → p ≡ true
-and-left true q e = refl
-and-left false q e = e
-
-and-right : (p q : Bool) → (p && q) ≡ true → q ≡ true
-and-right true q e = e
-and-right false q e = cc
-
 pub sound-parts : (c : Chart) (values : List Float) → measured c values .sound ≡ true → Sound c values
 unfolding measured measuredOf limitsFrom
 sound-parts c values h =
@@ -191,14 +184,10 @@ sound-parts c values h =
     let q = allFinite (seriesOf c 1 values) in
     let r = finiteLimits (measured c values .main) in
     let s = finiteLimits (measured c values .dispersion) in
-    let points = and-left (p && q) (r && s) h in
-    let limits = and-right (p && q) (r && s) h in
-    record {
-      main-points = and-left p q points;
-      dispersion-points = and-right p q points;
-      main-limits = and-left r s limits;
-      dispersion-limits = and-right r s limits;
-    }
+    let all = both (p && q) (r && s) h in
+    let points = both p q (all .0) in
+    let limits = both r s (all .1) in
+    record { main-points = points .0; dispersion-points = points .1; main-limits = limits .0; dispersion-limits = limits .1 }
 
 module _ (c : Chart) (values : List Float) {a b x y : ℕ} (h : Ahead c values a b x y)
     {w : Measured} (e : w ≡ measured c values) (ok : not (w .sound) ≡ false) where

@@ -9,23 +9,11 @@ use lib.Dec.{ltb}
 use lib.ListN.{length, getD, set, length-append}
 use borrow.Author.Tests.{lt-ltb, le-ltb, ltb-true, ltb-false}
 use Rattle.laws.specs.Front.{atFront}
+use Rattle.laws.proofs.Digits.{by-digits}
 use Rattle.laws.proofs.Filling.{filling-goes-on, filling-ends}
 use Rattle.laws.proofs.Lending.{front-fills}
 use lib.Seq.{getD-append-seam}
 use Rattle.reports.specs.Text.{glyph, decimalIn, decimal, digits}
-
--- Whatever holds of a number of one digit, and of a longer one where it holds of the digits in front of its last, holds of every number.
-module _ (P : ℕ → Type 0) (one : (x : ℕ) → x < 10 → P x) (more : (x : ℕ) → 10 ≤ x → P (x / 10) → P x) where
-  by-size : (k x : ℕ) (t : Bool) → ltb x 10 ≡ t → x ≤ suc k → ((y : ℕ) → y ≤ k → P y) → P x
-  by-size k x true e h ih = one x (ltb-true x 10 e)
-  by-size k x false e h ih = more x (ltb-false x 10 e) (ih (x / 10) (omega (arith, ltb-false x 10 e)))
-
-  up-to : (k x : ℕ) → x ≤ k → P x
-  up-to zero x h = one x (omega arith)
-  up-to (suc k) x h = by-size k x (ltb x 10) refl h (up-to k)
-
-  by-digits : (x : ℕ) → P x
-  by-digits x = up-to x x (omega arith)
 
 -- ---- decimal digits
 
@@ -41,7 +29,7 @@ in-more k x h = rw (le-ltb x 10 h, decimalIn)
 -- any first number that is at least x gives the same digits
 enough : (x k : ℕ) → x ≤ k → decimalIn k x ≡ decimal x
 unfolding decimal
-enough = by-digits (λ (x : ℕ). (k : ℕ) → x ≤ k → decimalIn k x ≡ decimalIn x x)
+enough = by-digits 10 (omega arith) (λ (x : ℕ). (k : ℕ) → x ≤ k → decimalIn k x ≡ decimalIn x x)
     (λ x h k l. in-one k x h ∙ sym (in-one x x h))
     (λ x h ih k l.
     let k-is : k ≡ suc (pred k) = omega arith in
@@ -72,7 +60,7 @@ pub length-more : (x : ℕ) → 10 ≤ x → length (decimal x) ≡ length (deci
 length-more x h = ap length (decimal-more x h) ∙ length-append (decimal (x / 10)) (glyph (x % 10) ∷ [])
 
 pub decimal-some : (x : ℕ) → 0 < length (decimal x)
-decimal-some = by-digits (λ (x : ℕ). 0 < length (decimal x))
+decimal-some = by-digits 10 (omega arith) (λ (x : ℕ). 0 < length (decimal x))
     (λ x h. omega (arith, length-one x h))
     (λ x h ih. omega (arith, length-more x h))
 
@@ -108,7 +96,7 @@ length-digits base (suc k) x =
 
 -- the decimal digits are that many digits in the base ten
 pub decimal-digits : (x : ℕ) → digits 10 (length (decimal x)) x ≡ decimal x
-decimal-digits = by-digits (λ (x : ℕ). digits 10 (length (decimal x)) x ≡ decimal x)
+decimal-digits = by-digits 10 (omega arith) (λ (x : ℕ). digits 10 (length (decimal x)) x ≡ decimal x)
     (λ x h.
     let last : x % 10 ≡ x = omega arith in
     ap (λ (k : ℕ). digits 10 k x) (length-one x h) ∙ one x ∙ ap (λ (d : ℕ). glyph d ∷ []) last ∙ sym (decimal-one x h))

@@ -7,6 +7,7 @@ use native.Mathlib.Omega.{arith}
 use lib.Dec.{T}
 use lib.Ieee.{Float, nan, inf, fin, binary64, toBits, isNan}
 use lib.ListN.{length, length-append}
+use Rattle.laws.proofs.Bools.{both}
 use Rattle.rules.specs.declared.Limits.{Limits}
 use Rattle.floats.specs.Finite.{finite}
 use Rattle.rules.specs.Finite.{finiteLimits}
@@ -22,18 +23,13 @@ no-nan nan h = absurd (true≢false (sym h))
 no-nan (inf s) h = absurd (true≢false (sym h))
 no-nan (fin s m e) h = tt
 
-all-three : (a b c : Bool) → (a && b && c) ≡ true → (a ≡ true) × (b ≡ true) × (c ≡ true)
-all-three true true true e = (refl, refl, refl)
-all-three true true false e = absurd (true≢false (sym e))
-all-three true false c e = absurd (true≢false (sym e))
-all-three false b c e = absurd (true≢false (sym e))
-
 pub limits-no-nan : (l : Limits) → finiteLimits l ≡ true
     → T (not (isNan (l .ucl))) × T (not (isNan (l .cl))) × T (not (isNan (l .lcl)))
 unfolding finiteLimits
 limits-no-nan l h =
-    let each = all-three (finite (l .ucl)) (finite (l .cl)) (finite (l .lcl)) h in
-    (no-nan (l .ucl) (each .0), no-nan (l .cl) (each .1), no-nan (l .lcl) (each .2))
+    let outer = both (finite (l .ucl) && finite (l .cl)) (finite (l .lcl)) h in
+    let inner = both (finite (l .ucl)) (finite (l .cl)) (outer .0) in
+    (no-nan (l .ucl) (inner .0), no-nan (l .cl) (inner .1), no-nan (l .lcl) (outer .1))
 
 -- ---- the line
 
