@@ -18,7 +18,7 @@ put-refusal-requires : tie.Need-put-refusal-requires
 put-refusal-requires c κs = search needs
 
 same-length : tie.Need-same-length
-same-length c = search needs
+same-length c = c .before .before .put-refusal .kept .0
 
 returns-2 : tie.Need-returns-2
 returns-2 c =

@@ -73,7 +73,7 @@ report-chart-requires c κs =
     (legal place, ap (λ (k : ℕ). length (take k (values place))) (sub-zero n) ∙ length-take-le n (values place) (room place))
 
 same-length : tie.Need-same-length
-same-length c = search needs
+same-length c = c .before .before .refuse .kept .1 .0
 
 returns : tie.Need-returns
 unfolding textOf
@@ -86,7 +86,7 @@ returns c =
     as-report _ _ (args .out .now) (sym is) (c .before .before .refuse .ensures)
 
 same-length-2 : tie.Need-same-length-2
-same-length-2 c = search needs
+same-length-2 c = c .before .before .report-chart .kept .1 .1 .0
 
 returns-2 : tie.Need-returns-2
 unfolding textOf

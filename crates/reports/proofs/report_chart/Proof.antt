@@ -103,7 +103,7 @@ refuse-requires : tie.Need-refuse-requires
 refuse-requires c κs = search needs
 
 same-length : tie.Need-same-length
-same-length c = search needs
+same-length c = c .before .before .refuse .kept .1 .0
 
 returns : tie.Need-returns
 returns c =
@@ -190,7 +190,7 @@ tell-requires c κs =
     )
 
 same-length-2 : tie.Need-same-length-2
-same-length-2 c = search needs
+same-length-2 c = c .before .before .refuse2 .kept .1 .0
 
 returns-2 : tie.Need-returns-2
 returns-2 c =
@@ -203,7 +203,7 @@ returns-2 c =
     as-report _ _ (s .before .before .before .before .args .out .now) (ap rLine (c .before .before .before .before .number .ensures) ∙ told) (c .before .before .refuse2 .ensures)
 
 same-length-3 : tie.Need-same-length-3
-same-length-3 c = search needs
+same-length-3 c = c .before .before .tell .kept .1 .1 .1 .1 .0
 
 returns-3 : tie.Need-returns-3
 returns-3 c =

@@ -52,7 +52,7 @@ put-chart-requires c κs =
     )
 
 same-length : tie.Need-same-length
-same-length c = search needs
+same-length c = c .before .before .put-chart .kept .0
 
 returns-2 : tie.Need-returns-2
 returns-2 c =

@@ -30,16 +30,24 @@ zero-all-requires : tie.Need-zero-all-requires
 zero-all-requires c κs = search needs
 
 same-length : tie.Need-same-length
-same-length c = search needs
+same-length c =
+    let zero-all = c .before .before .before .before .before .before .before .before .zero-all in
+    let back = c .before .before .before .before .before .before .before .before .before .before .before .before .before in
+    let measure = back .before .before .before .before .before .before .measure in
+    zero-all .kept .0 ∙ measure .kept .1 .1 .0
 
 same-length-2 : tie.Need-same-length-2
-same-length-2 c = search needs
+same-length-2 c =
+    let zero-all = c .before .before .before .before .before .before .before .before .zero-all in
+    let back = c .before .before .before .before .before .before .before .before .before .before .before .before .before in
+    let measure = back .before .before .before .before .before .before .measure in
+    zero-all .kept .1 .0 ∙ measure .kept .1 .1 .1 .0
 
 same-length-3 : tie.Need-same-length-3
-same-length-3 c = search needs
+same-length-3 c = c .before .before .before .before .before .before .before .before .zero-all .kept .1 .1 .0
 
 same-length-4 : tie.Need-same-length-4
-same-length-4 c = search needs
+same-length-4 c = c .before .before .before .before .before .before .before .before .zero-all .kept .1 .1 .1 .0
 
 returns : tie.Need-returns
 returns c =
@@ -108,16 +116,22 @@ mark-both-requires c κs =
     )
 
 same-length-5 : tie.Need-same-length-5
-same-length-5 c = search needs
+same-length-5 c =
+    let back = c .before .before .before .before .before .before .before .before .before .before .before .before .before in
+    let measure = back .before .before .before .before .before .measure in
+    measure .kept .1 .1 .0
 
 same-length-6 : tie.Need-same-length-6
-same-length-6 c = search needs
+same-length-6 c =
+    let back = c .before .before .before .before .before .before .before .before .before .before .before .before .before in
+    let measure = back .before .before .before .before .before .measure in
+    measure .kept .1 .1 .1 .0
 
 same-length-7 : tie.Need-same-length-7
-same-length-7 c = search needs
+same-length-7 c = c .before .before .before .before .mark-both .kept .1 .1 .1 .1 .0
 
 same-length-8 : tie.Need-same-length-8
-same-length-8 c = search needs
+same-length-8 c = c .before .before .before .before .mark-both .kept .1 .1 .1 .1 .1 .0
 
 returns-2 : tie.Need-returns-2
 returns-2 c =

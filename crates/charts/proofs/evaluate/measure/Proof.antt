@@ -61,10 +61,10 @@ limits-of-requires c κs =
     own-of (args .c) (length (args .values .now)) (pre .0)
 
 same-length : tie.Need-same-length
-same-length c = search needs
+same-length c = c .before .before .before .before .before .before .before .before .before .before .before .fill .kept .1 .1 .1 .0
 
 same-length-2 : tie.Need-same-length-2
-same-length-2 c = search needs
+same-length-2 c = c .before .before .before .before .before .before .before .fill2 .kept .1 .1 .1 .0
 
 returns : tie.Need-returns
 unfolding measured

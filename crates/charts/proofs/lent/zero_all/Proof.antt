@@ -16,16 +16,18 @@ zero-marks-requires-2 : tie.Need-zero-marks-requires-2
 zero-marks-requires-2 c κs = search needs
 
 same-length : tie.Need-same-length
-same-length c = search needs
+same-length c =
+    let back = c .before .before .before .before .before .before .before .before .before .before .before .before .before in
+    back .before .zero-points .kept .0
 
 same-length-2 : tie.Need-same-length-2
-same-length-2 c = search needs
+same-length-2 c = c .before .before .before .before .before .before .before .before .before .before .zero-points2 .kept .0
 
 same-length-3 : tie.Need-same-length-3
-same-length-3 c = search needs
+same-length-3 c = c .before .before .before .before .before .before .zero-marks .kept .0
 
 same-length-4 : tie.Need-same-length-4
-same-length-4 c = search needs
+same-length-4 c = c .before .before .zero-marks2 .kept .0
 
 returns : tie.Need-returns
 returns c =

@@ -34,7 +34,7 @@ count-requires c κs =
     front-few (length (args .points .now)) (mark .last .1 .1 .1 .0) (fine start .few)
 
 same-length : tie.Need-same-length
-same-length c = search needs
+same-length c = c .before .before .before .before .before .mark .kept .1 .1 .1 .0
 
 returns : tie.Need-returns
 returns c =

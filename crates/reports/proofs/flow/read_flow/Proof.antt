@@ -39,7 +39,7 @@ returns-2 c =
     )
 
 same-length : tie.Need-same-length
-same-length c = search needs
+same-length c = c .before .before .read-values .kept .1 .1 .1 .0
 
 returns-3 : tie.Need-returns-3
 unfolding flowOf

@@ -19,7 +19,7 @@ put-digits-requires c κs =
     (omega (arith, length-digits 16 16 (args .x), ap length word, c .before .before .before .pre), omega arith, omega arith)
 
 same-length : tie.Need-same-length
-same-length c = search needs
+same-length c = c .before .before .put-digits .kept .0
 
 returns : tie.Need-returns
 returns c =
@@ -41,7 +41,7 @@ put-digits-requires-2 c κs =
     (omega (arith, long, ap length word, c .decimal-len .ensures .0, c .before .before .before .before .pre), omega arith, omega arith)
 
 same-length-2 : tie.Need-same-length-2
-same-length-2 c = search needs
+same-length-2 c = c .before .before .put-digits2 .kept .0
 
 returns-2 : tie.Need-returns-2
 returns-2 c =
