@@ -7,12 +7,11 @@ use Prim.Native.Nat.{ℕ, zero, suc, _+_, _-_, _^_, _≤_, _<_}
 use native.Mathlib.Nat.{add-suc, le-of-suc-le-suc}
 use native.Mathlib.Omega.{arith}
 use borrow.Author.Tests.{le-leb, lt-leb, leb-true, lt-ltb, le-ltb, eq-eqb}
-use lib.Bits.{bitAnd, and-comm}
-use lib.Dec.{ltb, leb, eqb}
+use lib.Bits.{and-comm}
+use lib.Dec.{leb, eqb}
 use lib.Ieee.{Float, nan}
 use lib.ListN.{length, take, drop, getD, length-drop, List·getD-map, List·getD-append}
 use lib.Seq.{getD-take, getD-drop, take-all, length-take-le}
-use Rattle.laws.specs.Bits.{hasBit}
 use Rattle.laws.specs.Lists.{tabulateFrom, tabulate}
 use Rattle.laws.specs.Front.{atFront}
 use Rattle.laws.proofs.OneBit.{test-pow}
@@ -28,7 +27,6 @@ use Rattle.rules.specs.Tests.{window, shows}
 use Rattle.floats.specs.Finite.{allFinite}
 use Rattle.rules.specs.Finite.{finiteLimits}
 use Rattle.rules.specs.Marking.{newestFirst, stands, marksAt, marksOf, answerOf, marksAfter}
-use Rattle.evidence.specs.declared.Span.{Span}
 use Rattle.evidence.specs.Evidence.{testOf, partTo, shownAt}
 use Rattle.evidence.specs.Steps.{showsAlone, spanAt}
 use Rattle.rules.proofs.Meaning.{length-marks, marks-at}

@@ -1,12 +1,12 @@
 -- The loop that reads a number, on plain numbers and in the code's own masks and shifts: the groups read so far, in front of what
 -- is left, decide what is read. Assumes nothing.
-use Prim.Native.Nat.{ℕ, zero, suc, _+_, _*_, _/_, _%_, _^_, _≤_, _<_}
+use Prim.Native.Nat.{ℕ, zero, suc, _+_, _*_, _%_, _^_, _≤_, _<_}
 use native.Mathlib.Omega.{arith}
 use native.Mathlib.Nat.{add-mul, mul-assoc, mul-comm, add-comm}
 use native.Mathlib.Numerals.{add-one}
 use mathlib.Core.Path.{_≡_, refl, sym, ap, ap₂, _∙_, subst}
 use mathlib.Core.Bool.{Bool, true, false, cond, not, _&&_}
-use mathlib.Core.List.{List, [], _∷_}
+use mathlib.Core.List.{List, _∷_}
 use lib.ListN.{length, drop, getD, drop-of-length-le}
 use lib.Seq.{drop-cons}
 use lib.Arith.{digits-lt}
@@ -14,7 +14,6 @@ use lib.Pow.{pow-add, pow-mono, shl-exact}
 use lib.Dec.{ltb, eqb}
 use lib.Bits.{bitAnd, bitOr, and-mask, or-shifted-r}
 use borrow.Author.Tests.{ltb-true, ltb-false, ne-eqb, eq-eqb, eqb-true, eqb-false}
-use Rattle.groups.specs.declared.Reading.{Reading}
 use Rattle.groups.specs.declared.Reading.the-variants.{Number, Fault}
 use Rattle.groups.specs.Groups.{Front, some, none, before, front, readAs, numberAt}
 use Rattle.groups.proofs.Strings.{before-some, before-zero, front-one, front-more}

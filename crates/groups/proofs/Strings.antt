@@ -1,14 +1,11 @@
 -- What the string of a number looks like, and what stands at the front of some bytes, group by group. Assumes nothing.
-use Prim.Native.Nat.{ℕ, zero, suc, pred, _+_, _*_, _-_, _/_, _%_, _≤_, _<_}
+use Prim.Native.Nat.{ℕ, zero, suc, pred, _+_, _*_, _/_, _%_, _≤_, _<_}
 use native.Mathlib.Omega.{arith}
 use mathlib.Core.Path.{_≡_, refl, sym, ap, _∙_}
-use mathlib.Core.Bool.{Bool, true, false}
-use mathlib.Core.List.{List, [], _∷_, _++_}
-use lib.ListN.{length}
-use lib.Dec.{ltb, eqb}
-use borrow.Author.Tests.{lt-ltb, le-ltb, ltb-true, ltb-false, ne-eqb, eq-eqb}
+use mathlib.Core.List.{List, [], _∷_}
+use borrow.Author.Tests.{lt-ltb, le-ltb, ne-eqb, eq-eqb}
 use Rattle.laws.proofs.Digits.{by-digits}
-use Rattle.groups.specs.Groups.{groupsIn, groups, Front, some, none, before, front}
+use Rattle.groups.specs.Groups.{groupsIn, groups, some, none, before, front}
 
 -- Whatever holds of a number of one group, and of a longer one where it holds of the groups after the first, holds of every number.
 pub by-groups : (P : ℕ → Type 0) → ((x : ℕ) → x < 128 → P x) → ((x : ℕ) → 128 ≤ x → P (x / 128) → P x) → (x : ℕ) → P x

@@ -1,7 +1,7 @@
 -- Numbers in groups of seven bits: low group first, top bit set on all but the last group, shortest form
 -- (01, 'The mark sheet', first sentence). Definitions only.
 use Prim.Native.Nat.{ℕ, zero, suc, _+_, _*_, _/_, _%_, _^_}
-use mathlib.Core.Bool.{Bool, true, false, cond}
+use mathlib.Core.Bool.{true, false, cond}
 use mathlib.Core.List.{List, [], _∷_}
 use lib.ListN.{length, drop}
 use lib.Dec.{ltb, leb, eqb}

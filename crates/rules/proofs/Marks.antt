@@ -1,8 +1,8 @@
 -- The marks that are read off the codes of a series, behind fourteen zeros, are the marks of the series. Assumes nothing.
-use mathlib.Core.Path.{_≡_, refl, sym, ap, ap₂, _∙_, subst}
-use mathlib.Core.Bool.{Bool, true, false, _&&_}
-use mathlib.Core.List.{List, [], _∷_, _++_, map, append-nil}
-use Prim.Native.Nat.{ℕ, zero, suc, _+_, _-_, _%_, _^_, _≤_, _<_}
+use mathlib.Core.Path.{_≡_, refl, sym, ap, ap₂, _∙_}
+use mathlib.Core.Bool.{Bool, true, false}
+use mathlib.Core.List.{List, [], _∷_, _++_, append-nil}
+use Prim.Native.Nat.{ℕ, zero, suc, _+_, _-_, _%_, _≤_, _<_}
 use native.Mathlib.Nat.{mod-eq-of-lt, le-of-eq}
 use native.Mathlib.Omega.{arith}
 use borrow.Author.Tests.{leb-true, leb-false}
@@ -16,10 +16,8 @@ use Rattle.laws.specs.Lists.{tabulate}
 use Rattle.laws.specs.Front.{atFront}
 use Rattle.laws.proofs.Bits.{fromBits-lt}
 use Rattle.laws.proofs.Lists.{length-tabulate, getD-tabulate, same-tabulate}
-use Rattle.sets.specs.Sets.{has, setOf}
-use Rattle.sets.proofs.Sets.{and-setOf}
 use Rattle.rules.specs.declared.Lines.{Lines}
-use Rattle.rules.specs.Marking.{newestFirst, stands, marksAt}
+use Rattle.rules.specs.Marking.{newestFirst, marksAt}
 use Rattle.rules.specs.Codes.{bitsOf, codeOf, codeAt, codesOf, needsFull, narrowed, lastOf, readOff, marksRead, Room}
 use Rattle.rules.proofs.ReadOff.{lately, reads-marks}
 

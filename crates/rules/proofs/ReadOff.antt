@@ -1,6 +1,6 @@
 -- What is read off the fifteen codes that end at a position are the tests of the set that stand there. Assumes nothing.
 use mathlib.Core.Path.{_≡_, refl, sym, ap, ap₂, _∙_, fun-ext}
-use mathlib.Core.Bool.{Bool, true, false, not, _&&_, _||_, false≢true, and-or-distrib-left}
+use mathlib.Core.Bool.{Bool, true, false, _&&_, _||_, false≢true, and-or-distrib-left}
 use mathlib.Core.List.{List, [], _∷_, map}
 use Prim.Native.Nat.{ℕ, zero, suc, _*_, _≤_}
 use native.Mathlib.Omega.{arith}

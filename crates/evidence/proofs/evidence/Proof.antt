@@ -1,6 +1,5 @@
 -- `evidence::evidence` meets its contract: each return is the part that the definition names. Assumes nothing.
-use mathlib.Core.Path.{_≡_, sym, ap, _∙_}
-use Prim.Native.Nat.{ℕ}
+use mathlib.Core.Path.{sym, ap, _∙_}
 use native.Mathlib.Omega.{arith}
 use Rattle.evidence.specs.declared.Span.{Span}
 use Rattle.evidence.proofs.Spans.{main-part, second-part, second-none, no-series}

@@ -1,6 +1,6 @@
 -- `floats::is_finite` meets its contract, by the three kinds of float. Assumes nothing.
 use mathlib.Core.Path.{_≡_, refl}
-use mathlib.Core.Bool.{Bool, true, false, _&&_}
+use mathlib.Core.Bool.{true, false, _&&_}
 use lib.Ieee.{Float, nan, inf, fin, lt, div, neg, ofBits}
 use Rattle.floats.specs.Finite.{finite}
 use Rattle.floats.proofs.is_finite.Statement.{statement}

@@ -1,7 +1,7 @@
 -- `floats::of_bits` meets its contract: past its sign, a pattern is a NaN's exactly if it is above that of infinity. Assumes nothing.
 use mathlib.Core.Path.{_≡_, refl, sym, subst, _∙_}
 use mathlib.Core.Bool.{Bool, true, not, false≢true}
-use Prim.Native.Nat.{ℕ, _*_, _%_}
+use Prim.Native.Nat.{_*_, _%_}
 use native.Mathlib.Omega.{arith}
 use lib.Dec.{T}
 use lib.Arith.{le→nltb}

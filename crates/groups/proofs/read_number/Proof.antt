@@ -1,5 +1,5 @@
 -- `groups::read_number` meets its contract. `Reads` of proofs/ReadLoop.antt is the loop's invariant. Assumes nothing.
-use Prim.Native.Nat.{ℕ, _-_}
+use Prim.Native.Nat.{_-_}
 use native.Mathlib.Omega.{arith}
 use borrow.Author.Needs.{needs}
 use lib.ListN.{length}

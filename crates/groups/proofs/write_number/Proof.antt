@@ -1,12 +1,10 @@
 -- `groups::write_number` meets its contract. `Writes` of proofs/WriteLoop.antt is the loop's invariant. Assumes nothing.
-use Prim.Native.Nat.{ℕ, _+_, _≤_, _<_}
 use native.Mathlib.Omega.{arith}
-use mathlib.Core.Path.{_≡_, refl, sym, ap, _∙_}
-use mathlib.Core.List.{List}
+use mathlib.Core.Path.{refl, ap}
 use borrow.Author.Needs.{needs}
 use borrow.Author.Tests.{lt-leb, le-leb}
 use lib.ListN.{length, length-set}
-use Rattle.groups.specs.declared.Writing.the-variants.{Bytes, Short}
+use Rattle.groups.specs.declared.Writing.the-variants.{Bytes}
 use Rattle.groups.specs.Groups.{groups}
 use Rattle.groups.proofs.WriteLoop.{Writes, top-bit-fits, writes-starts, writes-length, writes-room, writes-on, writes-all, writes-ends}
 use Rattle.groups.proofs.write_number.Statement.{statement}

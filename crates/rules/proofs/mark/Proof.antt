@@ -1,6 +1,5 @@
 -- `rules::mark` meets its contract: nothing is written where it refuses, and else the slice is filled. Assumes nothing.
 use mathlib.Core.Path.{_≡_, sym, ap, _∙_}
-use mathlib.Core.List.{List}
 use borrow.Author.Tests.{eq-eqb, ne-eqb}
 use lib.ListN.{length}
 use Rattle.laws.specs.Lists.{tabulate}

@@ -1,5 +1,5 @@
 -- `rules::codes::fill` meets its contract: its arrays are room for the codes. Assumes nothing.
-use Prim.Native.Nat.{ℕ, _+_, _-_}
+use Prim.Native.Nat.{_+_, _-_}
 use native.Mathlib.Omega.{arith}
 use lib.ListN.{length}
 use Rattle.rules.proofs.Marks.{room-for}

@@ -1,5 +1,5 @@
 -- `rules::codes::mark_beyond` meets its contract. The marks are written one after the other. Assumes nothing.
-use Prim.Native.Nat.{ℕ, _≤_, _-_}
+use Prim.Native.Nat.{_-_}
 use native.Mathlib.Omega.{arith}
 use borrow.Author.Needs.{needs}
 use lib.ListN.{length}

@@ -1,5 +1,5 @@
 -- `rules::codes::narrow` meets its contract. The codes are written one after the other. Assumes nothing.
-use Prim.Native.Nat.{_≤_, _-_}
+use Prim.Native.Nat.{_-_}
 use native.Mathlib.Omega.{arith}
 use borrow.Author.Needs.{needs}
 use lib.ListN.{length}
