@@ -79,10 +79,6 @@ low-bit n = and-mask n 1 ∙ ap (λ (m : ℕ). m % 2) (sym (div-one n)) ∙ digi
 
 -- ---- the number of a list of bits
 
-pub fromBits-cons : (b : Bool) (bs : List Bool) → fromBits (b ∷ bs) ≡ fromBits bs * 2 + one b
-unfolding fromBits
-fromBits-cons b bs = refl
-
 pub fromBits-lt : (bs : List Bool) → fromBits bs < 2 ^ length bs
 unfolding fromBits
 fromBits-lt [] = omega arith

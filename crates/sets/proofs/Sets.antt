@@ -7,7 +7,7 @@ use native.Mathlib.Omega.{arith}
 use lib.ListN.{getD}
 use lib.Dec.{ltb}
 use lib.Bits.{bitAnd, and-le-r}
-use borrow.Author.Tests.{eqb-true, ltb-true}
+use borrow.Author.Tests.{ltb-true}
 use Rattle.laws.proofs.Bits.{has-and, fromBits-lt, has-fromBits}
 use Rattle.laws.proofs.FirstBits.{bits-again}
 use Rattle.sets.specs.declared.Test.{Test}
@@ -37,13 +37,6 @@ agree f g d e t = sym (at-bit f d t) ∙ ap (λ (l : List _). getD l (bitOf t) d
 pub bitOf-lt : (t : Test) → bitOf t < 9
 unfolding tests bitOf
 bitOf-lt t = ltb-true (bitOf t) 9 (agree (λ (u : Test). ltb (bitOf u) 9) (λ (u : Test). true) true refl t)
-
--- two tests with one bit are one
-pub is-one : (t u : Test) → is t u ≡ true → t ≡ u
-is-one t u e =
-    sym (at-bit (λ (v : Test). v) BeyondLimits t)
-    ∙ ap (λ (k : ℕ). getD (map (λ (v : Test). v) tests) k BeyondLimits) (eqb-true (bitOf t) (bitOf u) e)
-    ∙ at-bit (λ (v : Test). v) BeyondLimits u
 
 -- ---- sets
 
