@@ -225,7 +225,7 @@ pub fn read_float(list: &[u8], at: usize, item: Item) -> Float {
                 });
             }
             Float::Read(Real {
-                value: f64::from_bits(bits),
+                value: floats::of_bits(bits),
                 next: read.next,
             })
         }

@@ -8,7 +8,7 @@ use Rattle.laws.proofs.Refusals.{passed, refused, none-applies}
 use Rattle.charts.specs.Records.{addOf, valuesAfter}
 use Rattle.charts.proofs.Cases.{told, told-not}
 use Rattle.charts.proofs.Held.{held}
-use Rattle.charts.proofs.Appending.{appended}
+use Rattle.charts.proofs.Appending.{appended, one-more, lent-length, kept-length}
 use borrow.Author.Needs.{needs}
 use Rattle.charts.proofs.Chart.add.Statement.{statement}
 use Rattle.charts.proofs.Chart.add.Tie as tie
@@ -102,13 +102,22 @@ part-copy-end : tie.Need-part-copy-end
 part-copy-end c = search needs
 
 copy-requires : tie.Need-copy-requires
-copy-requires c κs = search needs
+copy-requires c κs =
+    let if5 = c .before .if5 in
+    let if2 = c .before .before .before .before .before .before .before .before .if2 in
+    let args = c .before .before .before .before .before .before .before .before .before .before .before .before .before .before .args in
+    lent-length (args .self) (args .values .now) (if5 .left) (args .sample .now) (if2 .left)
 
 add-count : tie.Need-add-count
-add-count c = search needs
+add-count c = one-more _ (c .before .before .before .before .before .before .before .before .if4 .left)
 
 same-length : tie.Need-same-length
-same-length c = search needs
+same-length c =
+    let copy = c .before .before .before .before .copy in
+    let if5 = c .before .before .before .before .before .before .if5 in
+    let back = c .before .before .before .before .before .before .before .before .before .before .before .before .before in
+    let args = back .before .before .before .before .before .before .args in
+    kept-length (args .self) (args .values .now) (if5 .left) (copy .last .0) (copy .kept .0)
 
 returns-6 : tie.Need-returns-6
 unfolding addOf
