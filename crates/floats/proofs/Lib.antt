@@ -1,2 +1,3 @@
--- The laws of finite values.
+-- The laws of finite values and of NaNs.
 mod AllFinite
+pub mod Nan

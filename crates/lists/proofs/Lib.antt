@@ -1,3 +1,2 @@
 -- The laws of comparing.
-mod Nan
 mod Matching

@@ -1,16 +1,16 @@
 -- What is allowed at each kind of bit pattern. Assumes nothing.
-use mathlib.Core.Path.{_≡_, refl, sym, ap, _∙_, subst}
-use mathlib.Core.Bool.{Bool, true, false, not, cond, _&&_, false≢true, true≢false}
+use mathlib.Core.Path.{_≡_, refl, sym, ap, subst}
+use mathlib.Core.Bool.{Bool, true, false, not, cond, false≢true}
 use mathlib.Core.Logic.{⊎-elim}
 use Prim.Native.Nat.{ℕ, zero, suc, _+_, _*_, _/_, _%_, _^_, _≤_, _<_}
 use native.Mathlib.Nat.{mul-pos}
 use native.Mathlib.Omega.{arith}
-use borrow.Author.Tests.{eq-eqb}
 use lib.Dec.{T, eqb}
 use lib.Pow.{pow-pos}
-use lib.Ieee.{Float, nan, inf, fin, binary64, odd, up, down, ofBits, ofFields, isNan, ne, eq, level}
+use lib.Ieee.{Float, nan, inf, fin, binary64, odd, up, ofBits, ofFields, isNan, ne}
 use lib.Ieee.Exact.{HasValue, odd-sign}
 use lib.Ieee.Positive.{positive}
+use Rattle.floats.proofs.Nan.{is-nan}
 use Rattle.root.specs.Root.{IsRoot, Allowed, Answer, done, refusal}
 use Rattle.root.specs.Steps.{infinity}
 use Rattle.root.proofs.Patterns.{below-or-from, unsigned, signed, subnormal, normal, beyond}
@@ -78,23 +78,9 @@ refused-from b l n h = ⊎-elim
     (below-or-from b (2 ^ 63))
 
 -- ---- the code's test for a NaN, which differs from itself
-same-level : (a : ℕ) (s : Bool) → level s a s a ≡ true
-same-level a true = ap (λ (t : Bool). t && true) (eq-eqb a a refl)
-same-level a false = ap (λ (t : Bool). t && true) (eq-eqb a a refl)
-
 pub refused-nan : (x : Float) → ne x x ≡ true → Allowed x refusal
-unfolding ne eq Allowed
-refused-nan nan h = refl
-refused-nan (inf s) h = refl
-refused-nan (fin s zero e) h = absurd (true≢false (sym h ∙ ap not (same-level (0 * up e * down e) s)))
-refused-nan (fin true (suc m) e) h = refl
-refused-nan (fin false (suc m) e) h = absurd (true≢false (sym h ∙ ap not (same-level (suc m * up e * down e) false)))
-
-pub number : (x : Float) → ne x x ≡ false → T (not (isNan x))
-unfolding ne eq isNan
-number nan h = absurd (true≢false h)
-number (inf s) h = tt
-number (fin s m e) h = tt
+unfolding Allowed
+refused-nan x h = rw (is-nan x h) refl
 
 -- ---- an answer that is not the refusal has a number
 pub not-refused : (r : Float) → done r ≡ refusal → ⊥

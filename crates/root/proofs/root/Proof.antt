@@ -12,7 +12,8 @@ use Rattle.root.specs.declared.Rooted.the-variants.{Root, Refused}
 use Rattle.root.specs.Root.{Allowed, done, numbered, rootOf}
 use Rattle.root.proofs.Function.{rootOf-only}
 use Rattle.root.proofs.Patterns.{above-zero, not-nan}
-use Rattle.root.proofs.Answers.{allowed-root, allowed-zero, allowed-minus-zero, refused-from, refused-nan, number}
+use Rattle.root.proofs.Answers.{allowed-root, allowed-zero, allowed-minus-zero, refused-from, refused-nan}
+use Rattle.floats.proofs.Nan.{no-nan}
 use Rattle.root.proofs.root.Statement.{statement}
 use Rattle.root.proofs.root.Tie as tie
 
@@ -42,7 +43,7 @@ returns : tie.Need-returns
 returns c = both (c .before .args .x) Refused (held (c .before)) (refused-nan (c .before .args .x) (c .if1 .taken))
 
 float-to-bits-b : tie.Need-float-to-bits-b
-float-to-bits-b c = number (c .before .args .x) (c .if1 .left)
+float-to-bits-b c = no-nan (c .before .args .x) (c .if1 .left)
 
 returns-2 : tie.Need-returns-2
 returns-2 c = by-zero (c .before .before .args .x) 0 (held (c .before .before)) (c .if2 .taken) allowed-zero

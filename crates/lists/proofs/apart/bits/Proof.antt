@@ -1,8 +1,8 @@
 -- `lists::apart::bits` meets its contract. Assumes nothing.
-use mathlib.Core.Path.{_≡_, sym, ap}
+use mathlib.Core.Path.{sym, ap}
 use borrow.Author.Needs.{needs}
 use lib.Ieee.{Float, binary64, toBits}
-use Rattle.lists.proofs.Nan.{is-nan, no-nan}
+use Rattle.floats.proofs.Nan.{is-nan, no-nan}
 use Rattle.lists.proofs.apart.bits.Statement.{statement}
 use Rattle.lists.proofs.apart.bits.Tie as tie
 

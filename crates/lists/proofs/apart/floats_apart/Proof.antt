@@ -1,7 +1,7 @@
 -- `lists::apart::floats_apart` meets its contract. The invariant of its loop: the entries that were passed match. The measure is what is left of
 -- them. Assumes nothing.
 use Prim.Native.Nat.{ℕ, _-_, _<_}
-use mathlib.Core.Path.{_≡_, sym, _∙_}
+use mathlib.Core.Path.{sym, _∙_}
 use mathlib.Core.List.{List}
 use native.Mathlib.Omega.{arith}
 use borrow.Author.Needs.{needs}
