@@ -10,11 +10,12 @@ use Rattle.groups.specs.declared.Reading.{Reading}
 use Rattle.groups.specs.declared.Reading.the-variants.{Number, Fault}
 use Rattle.sheets.specs.declared.reader.Entry.{Entry}
 use Rattle.sheets.specs.declared.reader.Entry.the-variants.{Whole, Broken}
+use Rattle.sheets.specs.declared.reader.Entries.{Entries}
+use Rattle.sheets.specs.declared.reader.Entries.the-variants as all
 use Rattle.sheets.specs.declared.reader.Head.{Head}
 use Rattle.sheets.specs.declared.reader.Head.the-variants.{Names, Faulty}
 use Rattle.sheets.specs.Sheet.{marked, entriesOf}
 use Rattle.sheets.specs.Said.{Said, fault, sheet, placed, entries}
-use Rattle.sheets.specs.Answers.{Verdict, firstWrong}
 
 -- ---- reading
 
@@ -27,6 +28,11 @@ atMost most at (Number v next) = cond (leb v most) (Number v next) (Fault at)
 abbrev pub afterHead : List ℕ → Head → Said
 afterHead s (Faulty p) = fault p
 afterHead s (Names points set k next) = entries s set k points next
+
+-- there are at most 4,096 points
+abbrev pub Few : Head → Type 0
+Few (Faulty p) = Unit {0}
+Few (Names points set k next) = points ≤ 4096
 
 -- what is said, known the first entry; k more follow
 abbrev pub afterEntry : List ℕ → ℕ → ℕ → ℕ → Entry → Said
@@ -43,17 +49,10 @@ pub record FirstEntry (s : List ℕ) (set left at : ℕ) (e : Entry) : Type 0 wh
   pub goes : (k : ℕ) → entries s set (suc k) left at ≡ afterEntry s set left k e
   pub fits : Fits left e
 
--- ---- checking
-
--- a form fault comes first, and else it is this
-abbrev pub unlessFault : Verdict → Said → Verdict
-unlessFault v (fault p) = (9, p, 0, 0)
-unlessFault v (sheet set ms) = v
-
--- from position i on: a form fault comes first, and else the first wrong marks
-abbrev pub against : ℕ → List ℕ → Said → Verdict
-against i right (fault p) = (9, p, 0, 0)
-against i right (sheet set ms) = firstWrong i right ms
+-- what is said, known how the entries came out and the marks of every point
+abbrev pub tells : ℕ → Entries → List ℕ → Said
+tells set (all.Broken p) ms = fault p
+tells set all.Whole ms = sheet set ms
 
 -- ---- writing
 
