@@ -2,16 +2,17 @@
 -- Sheet.antt. Definitions only.
 use mathlib.Core.Bool.{cond}
 use mathlib.Core.Path.{_≡_}
-use mathlib.Core.List.{List}
+use mathlib.Core.List.{List, _++_}
 use Prim.Native.Nat.{ℕ, suc, _-_, _*_, _≤_, _<_}
 use lib.Dec.{leb}
-use lib.ListN.{length}
+use lib.ListN.{length, take, drop, replicate}
 use Rattle.groups.specs.declared.Reading.{Reading}
 use Rattle.groups.specs.declared.Reading.the-variants.{Number, Fault}
 use Rattle.sheets.specs.declared.reader.Entry.{Entry}
 use Rattle.sheets.specs.declared.reader.Entry.the-variants.{Whole, Broken}
 use Rattle.sheets.specs.declared.reader.Entries.{Entries}
 use Rattle.sheets.specs.declared.reader.Entries.the-variants as all
+use Rattle.sheets.specs.declared.reader.Reach.{Reach}
 use Rattle.sheets.specs.declared.reader.Head.{Head}
 use Rattle.sheets.specs.declared.reader.Head.the-variants.{Names, Faulty}
 use Rattle.sheets.specs.Sheet.{marked, entriesOf}
@@ -48,6 +49,27 @@ Fits left (Whole skip m next) = skip < left
 pub record FirstEntry (s : List ℕ) (set left at : ℕ) (e : Entry) : Type 0 where
   pub goes : (k : ℕ) → entries s set (suc k) left at ≡ afterEntry s set left k e
   pub fits : Fits left e
+
+-- marks in front of what the rest says
+abbrev pub inFront : List ℕ → Said → Said
+inFront xs (fault p) = fault p
+inFront xs (sheet set ms) = sheet set (xs ++ ms)
+
+-- what is said, known how far reading has come: the marks of the points that are passed, in front of what the entries left say
+abbrev pub toldFrom : List ℕ → ℕ → List ℕ → Reach → Said
+toldFrom s set stated r = inFront (take (r .point) stated) (entries s set (r .left) (length stated - r .point) (r .at))
+
+-- the points that are not passed have no marks yet
+pub record Blank (stated : List ℕ) (r : Reach) : Type 0 where
+  pub within : r .point ≤ length stated
+  pub zeros : drop (r .point) stated ≡ replicate (length stated - r .point) 0
+
+-- reading has gone on, and the same is said
+pub record Onward (s : List ℕ) (set : ℕ) (old : List ℕ) (from : Reach) (stated : List ℕ) (r : Reach) : Type 0 where
+  pub long : length stated ≡ length old
+  pub same : toldFrom s set old from ≡ toldFrom s set stated r
+  pub blank : Blank stated r
+  pub fewer : r .left ≤ from .left
 
 -- what is said, known how the entries came out and the marks of every point
 abbrev pub tells : ℕ → Entries → List ℕ → Said

@@ -7,7 +7,7 @@ ghost use lib.Dec.{eqb, ltb, leb};
 ghost use lib.ListN.{length, replicate};
 ghost use Rattle.groups.specs.Groups.{numberAt};
 ghost use Rattle.sheets.specs.Said.{saidFrom, isPart, entries};
-ghost use Rattle.sheets.specs.Steps.{atMost, afterHead, Few, FirstEntry, tells};
+ghost use Rattle.sheets.specs.Steps.{atMost, afterHead, Few, FirstEntry, Blank, Onward, tells};
 
 // The three numbers at the head of a sheet, and the place past them.
 pub enum Head {
@@ -34,6 +34,13 @@ pub enum Entry {
     Broken {
         at: usize,
     },
+}
+
+// How far reading has come: the first point that is not passed, the place in the bytes, and how many entries are left.
+struct Reach {
+    point: usize,
+    at: usize,
+    left: usize,
 }
 
 // How the entries of a sheet came out.
@@ -148,13 +155,6 @@ fn is_part(marks: u16, set: u16) -> bool
     (marks != 0) & (marks & set == marks)
 }
 
-// Whether two bytes are a skip and marks that are part of the set.
-fn in_two(skip: u16, marks: u16, set: u16) -> bool
-    ensures { λ r. ⌜ r ≡ ((ltb skip 128 && ltb marks 128) && isPart set marks) ⌝ }
-{
-    (skip < 128) & (marks < 128) & is_part(marks, set)
-}
-
 // The number of two groups.
 fn joined(low: u16, high: u16) -> u16
     requires { ⌜ high < 256 ⌝ }
@@ -170,56 +170,99 @@ fn two_groups(low: u16, high: u16) -> bool
     (128 <= low) & ((high != 0) & (high < 128))
 }
 
+// Goes on over entries of two bytes each, two in a turn.
+fn read_pairs(s: &[u8], set: u16, stated: &mut [u16], from: Reach) -> Reach
+    requires { ⌜ Blank (now stated) from ⌝ }
+    ensures { λ r. ⌜ Onward (now (s .entry)) set (now (stated .entry)) from (now (stated .exit)) r ⌝ }
+{
+    let near_end = less_three(s.len());
+    let mut point = from.point;
+    let mut at = from.at;
+    let mut left = from.left;
+    while 1 < left && at < near_end {
+        let a = byte(s[at]);
+        let b = byte(s[at + 1]);
+        let c = byte(s[at + 2]);
+        let d = byte(s[at + 3]);
+        let first = point + a as usize;
+        let second = first + 1 + c as usize;
+        if (a | b | c | d) >= 128 {
+            return Reach { point, at, left };
+        }
+        if !(is_part(b, set) & is_part(d, set)) {
+            return Reach { point, at, left };
+        }
+        if stated.len() <= second {
+            return Reach { point, at, left };
+        }
+        stated[first] = b;
+        stated[second] = d;
+        point = second + 1;
+        at += 4;
+        left -= 2;
+    }
+    Reach { point, at, left }
+}
+
+// Goes on over entries of three bytes, whose marks are two groups.
+fn read_long(s: &[u8], set: u16, stated: &mut [u16], from: Reach) -> Reach
+    requires { ⌜ Blank (now stated) from ⌝ }
+    ensures { λ r. ⌜ Onward (now (s .entry)) set (now (stated .entry)) from (now (stated .exit)) r ⌝ }
+{
+    let near_end = less_three(s.len());
+    let mut point = from.point;
+    let mut at = from.at;
+    let mut left = from.left;
+    while 0 < left && at < near_end {
+        let a = byte(s[at]);
+        let b = byte(s[at + 1]);
+        let c = byte(s[at + 2]);
+        let first = point + a as usize;
+        let m = joined(b, c);
+        if !((a < 128) & two_groups(b, c) & is_part(m, set) & (first < stated.len())) {
+            return Reach { point, at, left };
+        }
+        stated[first] = m;
+        point = first + 1;
+        at += 3;
+        left -= 1;
+    }
+    Reach { point, at, left }
+}
+
 // The entries from a place to the end of the bytes: `stated`, which is all zero, gets the marks of every point.
 pub fn read_entries(s: &[u8], from: usize, count: usize, set: u16, stated: &mut [u16]) -> Entries
     requires { ⌜ now stated ≡ replicate (length (now stated)) 0 ⌝ }
     ensures { λ r. ⌜ tells set r (now (stated .exit)) ≡ entries (now (s .entry)) set count (length (now (stated .entry))) from ⌝ }
 {
-    let n = stated.len();
-    let near_end = less_three(s.len());
-    let mut i: usize = 0;
-    let mut at = from;
-    let mut k = count;
-    while 0 < k {
-        if 1 < k && at < near_end {
-            let a = byte(s[at]);
-            let b = byte(s[at + 1]);
-            let c = byte(s[at + 2]);
-            let d = byte(s[at + 3]);
-            let first = i + a as usize;
-            let second = first + 1 + c as usize;
-            if (in_two(a, b, set) & in_two(c, d, set)) & (second < n) {
-                stated[first] = b;
-                stated[second] = d;
-                i = second + 1;
-                at += 4;
-                k -= 2;
-                continue;
-            }
-            let m = joined(b, c);
-            if ((a < 128) & two_groups(b, c)) & (is_part(m, set) & (first < n)) {
-                stated[first] = m;
-                i = first + 1;
-                at += 3;
-                k -= 1;
-                continue;
-            }
-        }
-        match read_entry(s, at, n - i, set) {
-            Entry::Broken { at: fault } => {
-                return Entries::Broken { at: fault };
-            }
-            Entry::Whole { skip, marks, next } => {
-                let last = i + skip;
-                stated[last] = marks;
-                i = last + 1;
-                at = next;
-                k = k - 1;
+    let mut r = Reach {
+        point: 0,
+        at: from,
+        left: count,
+    };
+    while 0 < r.left {
+        // Most entries are short: they are read without a call for each number.
+        r = read_pairs(s, set, stated, r);
+        r = read_long(s, set, stated, r);
+        if 0 < r.left {
+            match read_entry(s, r.at, stated.len() - r.point, set) {
+                Entry::Broken { at } => {
+                    return Entries::Broken { at };
+                }
+                Entry::Whole { skip, marks, next } => {
+                    let last = r.point + skip;
+                    stated[last] = marks;
+                    r = Reach {
+                        point: last + 1,
+                        at: next,
+                        left: r.left - 1,
+                    };
+                }
             }
         }
     }
-    if at < s.len() {
-        return Entries::Broken { at };
+    if r.at < s.len() {
+        return Entries::Broken { at: r.at };
     }
     Entries::Whole
 }

@@ -1,259 +1,136 @@
--- `sheets::reader::read_entries` meets its contract. `Placed` of proofs/Entries.antt is the invariant of its loop. Assumes nothing.
+-- `sheets::reader::read_entries` meets its contract: `Onward` from the start is the invariant of its loop. Assumes nothing.
 use Prim.Native.Nat.{_+_, _<_}
 use native.Mathlib.Omega.{arith}
-use mathlib.Core.Path.{_≡_, sym, _∙_}
-use mathlib.Core.Bool.{true, _&&_}
-use lib.Dec.{ltb}
-use lib.ListN.{length, length-set}
+use mathlib.Core.Path.{_∙_}
+use lib.ListN.{length}
 use borrow.Author.Needs.{needs}
-use borrow.Author.Tests.{ltb-true}
-use Rattle.sheets.specs.Said.{entries}
-use Rattle.sheets.proofs.Entries.{Placed, both, entry-fits, placed-start, placed-turn, placed-pair, placed-long, placed-broken, placed-over, placed-end}
+use Rattle.sheets.specs.Steps.{Onward}
+use Rattle.sheets.proofs.Entries.{entry-fits, reach, blank-start, told-start, onward-start, onward-on, onward-turn, onward-broken, onward-over, onward-end}
 use Rattle.sheets.proofs.reader.read_entries.Statement.{statement}
 use Rattle.sheets.proofs.reader.read_entries.Tie as tie
 
 abbrev Inv-loop : tie.InvT-loop
-Inv-loop s from count set stated₀ n near-end i₀ at₀ k₀ stated i at k =
-    Placed (entries s set count (length stated₀) from) s set (length stated₀) stated i at k
+Inv-loop s from count set stated₀ r₀ stated r = Onward s set stated₀ (reach 0 from count) stated r
 
 abbrev μ-loop : tie.MeasureT-loop
-μ-loop s from count set stated₀ n near-end i₀ at₀ k₀ stated i at k = k
+μ-loop s from count set stated₀ r₀ stated r = r .left
 
--- three bytes more follow
-near : (c : tie.Then2 Inv-loop μ-loop) → c .before .before .before .loop .at + 3 < length (c .before .before .before .before .before .before .before .args .s .now)
-near c = omega (arith, ltb-true (c .before .before .before .loop .at) (c .before .before .before .before .less-three .result) (c .if2 .taken), c .before .before .before .before .less-three .ensures)
+-- the bytes of the room can be counted
+small : (c : tie.Start Inv-loop μ-loop) → length (c .args .stated .now) < 9223372036854775808
+small c = omega arith
 
--- the two tests of an entry of two bytes, twice, and the room
-paired : (c : tie.Then3 Inv-loop μ-loop)
-    → (c .before .before .in-two .result ≡ true) × (c .before .in-two2 .result ≡ true) × (c .before .before .before .before .before .before .before .before .before .before .before .before .before .before .loop .i + c .before .before .before .before .before .before .before .before .before .byte .result + 1 + c .before .before .before .before .before .byte3 .result < length (c .before .before .before .before .before .before .before .before .before .before .before .before .before .before .before .before .before .before .args .stated .now))
-paired c =
-    let e = both (c .before .before .in-two .result && c .before .in-two2 .result) _ (c .if3 .taken) in
-    let f = both (c .before .before .in-two .result) (c .before .in-two2 .result) (e .0) in
-    (f .0, f .1, ltb-true _ _ (e .1))
+-- how far the short ways came
+came : (c : tie.After-struct-known2 Inv-loop μ-loop)
+    → Onward (c .before .before .before .before .before .before .before .before .before .before .before .before .before .before .args .s .now) (c .before .before .before .before .before .before .before .before .before .before .before .before .before .before .args .set) (c .before .before .before .before .before .before .before .before .before .before .before .before .before .before .args .stated .now) (reach 0 (c .before .before .before .before .before .before .before .before .before .before .before .before .before .before .args .from) (c .before .before .before .before .before .before .before .before .before .before .before .before .before .before .args .count)) (c .before .before .before .read-long .last .1 .1 .0)
+    (c .before .before .before .read-long .result)
+came c =
+    let args = c .before .before .before .before .before .before .before .before .before .before .before .before .before .before .args in
+    let on = onward-on (args .s .now) (args .set) (args .stated .now) (reach 0 (args .from) (args .count)) in
+    on _ _ _ _ (on _ _ _ _ (c .before .before .before .before .before .before .before .before .before .before .before .loop .inv) (c .before .before .before .before .before .before .before .read-pairs .ensures)) (c .before .before .before .read-long .ensures)
 
--- the tests of an entry of three bytes, and the room
-long : (c : tie.Then4 Inv-loop μ-loop)
-    → (ltb (c .before .before .before .before .before .before .before .before .before .before .before .before .before .byte .result) 128 ≡ true) × (c .before .before .two-groups .result ≡ true) × (c .before .is-part .result ≡ true)
-    × (c .before .before .before .before .before .before .before .before .before .before .before .before .before .before .before .before .before .before .loop .i + c .before .before .before .before .before .before .before .before .before .before .before .before .before .byte .result < length (c .before .before .before .before .before .before .before .before .before .before .before .before .before .before .before .before .before .before .before .before .before .before .args .stated .now))
-long c =
-    let e = both (ltb (c .before .before .before .before .before .before .before .before .before .before .before .before .before .byte .result) 128 && c .before .before .two-groups .result) (c .before .is-part .result && _) (c .if4 .taken) in
-    let f = both (ltb (c .before .before .before .before .before .before .before .before .before .before .before .before .before .byte .result) 128) (c .before .before .two-groups .result) (e .0) in
-    let g = both (c .before .is-part .result) _ (e .1) in
-    (f .0, f .1, g .0, ltb-true _ _ (g .1))
-
--- the point of the entry that was read is one of those left
-fits : (c : tie.After-known-told2 Inv-loop μ-loop) → c .before .before .before .before .before .before .loop .i + c .before .skip .given .0 .0 < length (c .before .before .before .before .before .before .before .before .before .before .args .stated .now)
+-- the point of an entry is one of those left
+fits : (c : tie.After-known-told2 Inv-loop μ-loop) → c .before .before .before .before .before .before .before .before .before .read-long .result .point + c .before .skip .given .0 .0 < length (c .before .before .before .before .before .before .before .before .before .read-long .last .1 .1 .0)
 fits c =
-    let args = c .before .before .before .before .before .before .before .before .before .before .args in
-    let loop = c .before .before .before .before .before .before .loop in
+    let args = c .before .before .before .before .before .before .before .before .before .before .before .before .before .before .before .before .before .before .before .before .args in
     let read-entry = c .before .before .before .read-entry in
     let skip = c .before .skip in
     omega (
       arith,
-      entry-fits (args .s .now) (args .set) _ (loop .at) (loop .k) (read-entry .result) (read-entry .ensures)
-          (skip .given .0 .0) (skip .given .0 .1 .0) (skip .given .0 .1 .1 .0) (skip .given .1),
+      entry-fits (args .s .now) (args .set) _ _ 0 (read-entry .result) (read-entry .ensures) (skip .given .0 .0) (skip .given .0 .1 .0)
+          (skip .given .0 .1 .1 .0) (skip .given .1),
     )
-
-less-three-requires : tie.Need-less-three-requires Inv-loop μ-loop
-less-three-requires c κs = search needs
 
 loop-holds : tie.Need-loop-holds Inv-loop μ-loop
 loop-holds c =
-    let args = c .before .before .before .args in
-    placed-start (args .s .now) (args .set) (args .count) (args .from) (args .stated .now) (c .before .before .before .pre)
+    let args = c .before .before .args in
+    onward-start (args .s .now) (args .set) (args .stated .now) (reach 0 (args .from) (args .count))
+    (blank-start (args .stated .now) (args .from) (args .count) (c .before .before .pre))
 
-shared-slice-read-byte : tie.Need-shared-slice-read-byte Inv-loop μ-loop
-shared-slice-read-byte c = omega (arith, near (c .before))
+read-pairs-requires : tie.Need-read-pairs-requires Inv-loop μ-loop
+read-pairs-requires c κs = c .before .before .before .loop .inv .blank
 
-byte-requires : tie.Need-byte-requires Inv-loop μ-loop
-byte-requires c κs = search needs
-
-add-byte : tie.Need-add-byte Inv-loop μ-loop
-add-byte c = omega (arith, near (c .before .before))
-
-shared-slice-read-byte-2 : tie.Need-shared-slice-read-byte-2 Inv-loop μ-loop
-shared-slice-read-byte-2 c = omega (arith, near (c .before .before .before))
-
-byte-requires-2 : tie.Need-byte-requires-2 Inv-loop μ-loop
-byte-requires-2 c κs = search needs
-
-add-byte-2 : tie.Need-add-byte-2 Inv-loop μ-loop
-add-byte-2 c = omega (arith, near (c .before .before .before .before))
-
-shared-slice-read-byte-3 : tie.Need-shared-slice-read-byte-3 Inv-loop μ-loop
-shared-slice-read-byte-3 c = omega (arith, near (c .before .before .before .before .before))
-
-byte-requires-3 : tie.Need-byte-requires-3 Inv-loop μ-loop
-byte-requires-3 c κs = search needs
-
-add-byte-3 : tie.Need-add-byte-3 Inv-loop μ-loop
-add-byte-3 c = omega (arith, near (c .before .before .before .before .before .before))
-
-shared-slice-read-byte-4 : tie.Need-shared-slice-read-byte-4 Inv-loop μ-loop
-shared-slice-read-byte-4 c = omega (arith, near (c .before .before .before .before .before .before .before))
-
-byte-requires-4 : tie.Need-byte-requires-4 Inv-loop μ-loop
-byte-requires-4 c κs = search needs
-
-cast-first : tie.Need-cast-first Inv-loop μ-loop
-cast-first c = search needs
-
-add-first : tie.Need-add-first Inv-loop μ-loop
-add-first c = search needs
-
-add-second : tie.Need-add-second Inv-loop μ-loop
-add-second c = search needs
-
-cast-second : tie.Need-cast-second Inv-loop μ-loop
-cast-second c = search needs
-
-add-second-2 : tie.Need-add-second-2 Inv-loop μ-loop
-add-second-2 c = search needs
-
-in-two-requires : tie.Need-in-two-requires Inv-loop μ-loop
-in-two-requires c κs = search needs
-
-in-two-requires-2 : tie.Need-in-two-requires-2 Inv-loop μ-loop
-in-two-requires-2 c κs = search needs
-
-mul-stated : tie.Need-mul-stated Inv-loop μ-loop
-mul-stated c = search needs
-
-slice-write-stated : tie.Need-slice-write-stated Inv-loop μ-loop
-slice-write-stated c = omega (arith, paired c .2, c .before .before .before .before .before .before .before .before .before .before .before .before .before .before .loop .inv .long)
-
-mul-stated-2 : tie.Need-mul-stated-2 Inv-loop μ-loop
-mul-stated-2 c = search needs
-
-slice-write-stated-2 : tie.Need-slice-write-stated-2 Inv-loop μ-loop
-slice-write-stated-2 c = simp length-set (omega (arith, paired c .2, c .before .before .before .before .before .before .before .before .before .before .before .before .before .before .loop .inv .long))
-
-add-i : tie.Need-add-i Inv-loop μ-loop
-add-i c = search needs
-
-add-at : tie.Need-add-at Inv-loop μ-loop
-add-at c = omega (arith, near (c .before .before .before .before .before .before .before .before .before .before .before))
-
-sub-k : tie.Need-sub-k Inv-loop μ-loop
-sub-k c = search needs
-
-loop-less : tie.Need-loop-less Inv-loop μ-loop
-loop-less c = search needs
-
-loop-again : tie.Need-loop-again Inv-loop μ-loop
-loop-again c =
-    let args = c .before .before .before .before .before .before .before .before .before .before .before .before .before .before .before .before .before .before .args in
-    let loop = c .before .before .before .before .before .before .before .before .before .before .before .before .before .before .loop in
-    let tests = paired c in
-    placed-pair _ (args .s .now) (args .set) _ (loop .stated) (loop .i) (loop .at) (loop .k) (loop .inv)
-    (c .before .before .before .before .before .before .before .before .before .byte .result) (c .before .before .before .before .before .before .before .byte2 .result) (c .before .before .before .before .before .byte3 .result) (c .before .before .before .byte4 .result) (near (c .before .before .before .before .before .before .before .before .before .before .before)) (c .before .before .before .before .before .before .before .before .before .before .before .before .if1 .taken)
-    (c .before .before .before .before .before .before .before .before .before .byte .ensures .0) (c .before .before .before .before .before .before .before .byte2 .ensures .0) (c .before .before .before .before .before .byte3 .ensures .0) (c .before .before .before .byte4 .ensures .0)
-    (sym (c .before .before .in-two .ensures) ∙ tests .0) (sym (c .before .in-two2 .ensures) ∙ tests .1) (tests .2)
-
-joined-requires : tie.Need-joined-requires Inv-loop μ-loop
-joined-requires c κs = search needs
-
-two-groups-requires : tie.Need-two-groups-requires Inv-loop μ-loop
-two-groups-requires c κs = search needs
-
-is-part-requires : tie.Need-is-part-requires Inv-loop μ-loop
-is-part-requires c κs = search needs
-
-mul-stated-3 : tie.Need-mul-stated-3 Inv-loop μ-loop
-mul-stated-3 c = search needs
-
-slice-write-stated-3 : tie.Need-slice-write-stated-3 Inv-loop μ-loop
-slice-write-stated-3 c = omega (arith, long c .3, c .before .before .before .before .before .before .before .before .before .before .before .before .before .before .before .before .before .before .loop .inv .long)
-
-add-i-2 : tie.Need-add-i-2 Inv-loop μ-loop
-add-i-2 c = search needs
-
-add-at-2 : tie.Need-add-at-2 Inv-loop μ-loop
-add-at-2 c = omega (arith, near (c .before .before .before .before .before .before .before .before .before .before .before .before .before .before .before))
-
-sub-k-2 : tie.Need-sub-k-2 Inv-loop μ-loop
-sub-k-2 c = search needs
-
-loop-less-2 : tie.Need-loop-less-2 Inv-loop μ-loop
-loop-less-2 c = search needs
-
-loop-again-2 : tie.Need-loop-again-2 Inv-loop μ-loop
-loop-again-2 c =
-    let args = c .before .before .before .before .before .before .before .before .before .before .before .before .before .before .before .before .before .before .before .before .before .before .args in
-    let loop = c .before .before .before .before .before .before .before .before .before .before .before .before .before .before .before .before .before .before .loop in
-    let tests = long c in
-    placed-long _ (args .s .now) (args .set) _ (loop .stated) (loop .i) (loop .at) (loop .k) (loop .inv)
-    (c .before .before .before .before .before .before .before .before .before .before .before .before .before .byte .result) (c .before .before .before .before .before .before .before .before .before .before .before .byte2 .result) (c .before .before .before .before .before .before .before .before .before .byte3 .result) (c .before .before .before .joined .result) (omega (arith, near (c .before .before .before .before .before .before .before .before .before .before .before .before .before .before .before))) (omega arith)
-    (c .before .before .before .before .before .before .before .before .before .before .before .before .before .byte .ensures .0) (c .before .before .before .before .before .before .before .before .before .before .before .byte2 .ensures .0) (c .before .before .before .before .before .before .before .before .before .byte3 .ensures .0) (c .before .before .before .before .before .before .before .before .before .before .before .byte2 .ensures .1) (c .before .before .before .joined .ensures)
-    (tests .0) (sym (c .before .before .two-groups .ensures) ∙ tests .1) (sym (c .before .is-part .ensures) ∙ tests .2) (tests .3)
+read-long-requires : tie.Need-read-long-requires Inv-loop μ-loop
+read-long-requires c κs = c .before .before .before .read-pairs .ensures .blank
 
 sub-read-entry : tie.Need-sub-read-entry Inv-loop μ-loop
-sub-read-entry c = search needs
+sub-read-entry c = omega (arith, came (c .before .before) .blank .within)
 
 read-entry-requires : tie.Need-read-entry-requires Inv-loop μ-loop
 read-entry-requires c κs = search needs
 
-enum-known-fault : tie.Need-enum-known-fault Inv-loop μ-loop
-enum-known-fault c = search needs
+enum-known-at : tie.Need-enum-known-at Inv-loop μ-loop
+enum-known-at c = search needs
 
 same-length : tie.Need-same-length Inv-loop μ-loop
-same-length c = search needs
+same-length c = came (c .before .before .before .before .before .before) .long
 
 returns : tie.Need-returns Inv-loop μ-loop
 returns c =
-    let args = c .before .before .before .before .before .before .before .before .before .before .args in
-    let loop = c .before .before .before .before .before .before .loop in
+    let args = c .before .before .before .before .before .before .before .before .before .before .before .before .before .before .before .before .before .before .before .before .args in
+    let r = c .before .before .before .before .before .before .before .before .before .read-long .result in
     let read-entry = c .before .before .before .read-entry in
-    placed-broken _ (args .s .now) (args .set) _ (loop .stated) (loop .i) (loop .at) (loop .k) (loop .inv) (read-entry .result)
-    (c .before .fault .given .0 .0) (read-entry .ensures) (c .before .fault .given .1) (c .before .before .before .before .before .loop-test .taken)
+    onward-broken (args .s .now) (args .set) (args .stated .now) (reach 0 (args .from) (args .count)) _ (r .point) (r .at) (r .left)
+    (came (c .before .before .before .before .before .before)) (read-entry .result) (c .before .at .given .0 .0) (read-entry .ensures) (c .before .at .given .1) (c .before .before .before .before .before .if2 .taken)
+    ∙ told-start (args .s .now) (args .set) (args .stated .now) (args .from) (args .count)
 
 enum-known-skip : tie.Need-enum-known-skip Inv-loop μ-loop
 enum-known-skip c = search needs
 
 add-last : tie.Need-add-last Inv-loop μ-loop
-add-last c = omega (arith, fits c)
+add-last c = omega (arith, fits (c .before), came (c .before .before .before .before .before .before .before) .long, small (c .before .before .before .before .before .before .before .before .before .before .before .before .before .before .before .before .before .before .before .before .before))
 
-mul-stated-4 : tie.Need-mul-stated-4 Inv-loop μ-loop
-mul-stated-4 c = omega (arith, fits c)
+mul-stated : tie.Need-mul-stated Inv-loop μ-loop
+mul-stated c = omega (arith, fits (c .before), came (c .before .before .before .before .before .before .before) .long, small (c .before .before .before .before .before .before .before .before .before .before .before .before .before .before .before .before .before .before .before .before .before))
 
-slice-write-stated-4 : tie.Need-slice-write-stated-4 Inv-loop μ-loop
-slice-write-stated-4 c = omega (arith, fits c)
+slice-write-stated : tie.Need-slice-write-stated Inv-loop μ-loop
+slice-write-stated c = omega (arith, fits (c .before))
 
-add-i-3 : tie.Need-add-i-3 Inv-loop μ-loop
-add-i-3 c = omega (arith, fits c)
+add-t20 : tie.Need-add-t20 Inv-loop μ-loop
+add-t20 c = omega (arith, fits (c .before), came (c .before .before .before .before .before .before .before) .long, small (c .before .before .before .before .before .before .before .before .before .before .before .before .before .before .before .before .before .before .before .before .before))
 
-sub-k-3 : tie.Need-sub-k-3 Inv-loop μ-loop
-sub-k-3 c = search needs
+sub-t22 : tie.Need-sub-t22 Inv-loop μ-loop
+sub-t22 c = search needs
 
-loop-less-3 : tie.Need-loop-less-3 Inv-loop μ-loop
-loop-less-3 c = search needs
+loop-less : tie.Need-loop-less Inv-loop μ-loop
+loop-less c = omega (arith, c .before .before .before .before .before .before .before .before .before .before .before .before .before .before .before .read-pairs .ensures .fewer, c .before .before .before .before .before .before .before .before .before .before .before .read-long .ensures .fewer)
 
-loop-again-3 : tie.Need-loop-again-3 Inv-loop μ-loop
-loop-again-3 c =
-    let args = c .before .before .before .before .before .before .before .before .before .before .args in
-    let loop = c .before .before .before .before .before .before .loop in
-    let read-entry = c .before .before .before .read-entry in
-    let skip = c .before .skip in
-    placed-turn _ (args .s .now) (args .set) _ (loop .stated) (loop .i) (loop .at) (loop .k) (loop .inv) (read-entry .result)
-    (skip .given .0 .0) (skip .given .0 .1 .0) (skip .given .0 .1 .1 .0) (read-entry .ensures) (skip .given .1) (c .before .before .before .before .before .loop-test .taken)
+loop-again : tie.Need-loop-again Inv-loop μ-loop
+loop-again c =
+    let args = c .before .before .before .before .before .before .before .before .before .before .before .before .before .before .before .before .before .before .before .before .before .before .args in
+    let r = c .before .before .before .before .before .before .before .before .before .before .before .read-long .result in
+    let read-entry = c .before .before .before .before .before .read-entry in
+    let skip = c .before .before .before .skip in
+    onward-turn (args .s .now) (args .set) (args .stated .now) (reach 0 (args .from) (args .count)) _ (r .point) (r .at) (r .left)
+    (came (c .before .before .before .before .before .before .before .before)) (read-entry .result) (skip .given .0 .0) (skip .given .0 .1 .0) (skip .given .0 .1 .1 .0)
+    (read-entry .ensures) (skip .given .1) (c .before .before .before .before .before .before .before .if2 .taken)
+
+loop-less-2 : tie.Need-loop-less-2 Inv-loop μ-loop
+loop-less-2 c = omega (arith, c .before .before .before .before .before .before .before .before .read-pairs .ensures .fewer, c .before .before .before .before .read-long .ensures .fewer)
+
+loop-again-2 : tie.Need-loop-again-2 Inv-loop μ-loop
+loop-again-2 c = came (c .before)
 
 same-length-2 : tie.Need-same-length-2 Inv-loop μ-loop
 same-length-2 c = search needs
 
 returns-2 : tie.Need-returns-2 Inv-loop μ-loop
 returns-2 c =
-    let args = c .before .before .before .before .before .before .args in
-    let loop = c .before .before .loop in
-    placed-over _ (args .s .now) (args .set) _ (loop .stated) (loop .i) (loop .at) (loop .k) (loop .inv) (c .before .loop-test .left) (c .if5 .taken)
+    let args = c .before .before .before .before .before .before .before .args in
+    let loop = c .before .before .before .before .loop in
+    onward-over (args .s .now) (args .set) (args .stated .now) (reach 0 (args .from) (args .count)) (loop .stated) (loop .r .point) (loop .r .at)
+    (loop .r .left) (loop .inv) (c .before .before .if1 .left) (c .if3 .taken)
+    ∙ told-start (args .s .now) (args .set) (args .stated .now) (args .from) (args .count)
 
 same-length-3 : tie.Need-same-length-3 Inv-loop μ-loop
 same-length-3 c = search needs
 
 returns-3 : tie.Need-returns-3 Inv-loop μ-loop
 returns-3 c =
-    let args = c .before .before .before .before .before .before .args in
-    let loop = c .before .before .loop in
-    placed-end _ (args .s .now) (args .set) _ (loop .stated) (loop .i) (loop .at) (loop .k) (loop .inv) (c .before .loop-test .left) (c .if5 .left)
+    let args = c .before .before .before .before .before .before .before .args in
+    let loop = c .before .before .before .before .loop in
+    onward-end (args .s .now) (args .set) (args .stated .now) (reach 0 (args .from) (args .count)) (loop .stated) (loop .r .point) (loop .r .at)
+    (loop .r .left) (loop .inv) (c .before .before .if1 .left) (c .if3 .left)
+    ∙ told-start (args .s .now) (args .set) (args .stated .now) (args .from) (args .count)
 
 pub read-entries-spec : {M : Type 1} → statement M
 read-entries-spec =
@@ -261,58 +138,24 @@ read-entries-spec =
     (tie.spec
     Inv-loop
     μ-loop
-    less-three-requires
     loop-holds
-    shared-slice-read-byte
-    byte-requires
-    add-byte
-    shared-slice-read-byte-2
-    byte-requires-2
-    add-byte-2
-    shared-slice-read-byte-3
-    byte-requires-3
-    add-byte-3
-    shared-slice-read-byte-4
-    byte-requires-4
-    cast-first
-    add-first
-    add-second
-    cast-second
-    add-second-2
-    in-two-requires
-    in-two-requires-2
-    mul-stated
-    slice-write-stated
-    mul-stated-2
-    slice-write-stated-2
-    add-i
-    add-at
-    sub-k
-    loop-less
-    loop-again
-    joined-requires
-    two-groups-requires
-    is-part-requires
-    mul-stated-3
-    slice-write-stated-3
-    add-i-2
-    add-at-2
-    sub-k-2
-    loop-less-2
-    loop-again-2
+    read-pairs-requires
+    read-long-requires
     sub-read-entry
     read-entry-requires
-    enum-known-fault
+    enum-known-at
     same-length
     returns
     enum-known-skip
     add-last
-    mul-stated-4
-    slice-write-stated-4
-    add-i-3
-    sub-k-3
-    loop-less-3
-    loop-again-3
+    mul-stated
+    slice-write-stated
+    add-t20
+    sub-t22
+    loop-less
+    loop-again
+    loop-less-2
+    loop-again-2
     same-length-2
     returns-2
     same-length-3
