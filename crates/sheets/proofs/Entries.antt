@@ -3,23 +3,22 @@ use Prim.Native.Nat.{ℕ, suc, _+_, _-_, _*_, _%_, _≤_, _<_}
 use native.Mathlib.Numerals.{add-one}
 use native.Mathlib.Omega.{arith}
 use mathlib.Core.Path.{_≡_, refl, sym, ap, ap₂, _∙_, subst}
-use mathlib.Core.Bool.{Bool, true, false, not, _&&_}
+use mathlib.Core.Bool.{Bool, true, false, not, _||_}
 use mathlib.Core.List.{List, [], _∷_, _++_, append-assoc}
-use lib.Bits.{bitOr, or-add-and, and-le-l, and-le-r}
-use lib.Dec.{eqb, ltb, leb}
+use lib.Bits.{bitAnd, bitOr, or-add-and, and-le-l, and-le-r}
+use lib.Dec.{eqb, ltb}
 use lib.ListN.{length, take, drop, getD, set, replicate, length-set, length-replicate, take-append-drop, replicate-append-replicate}
 use lib.Seq.{take-at, drop-at, take-add, drop-drop, take-suc-set, drop-set-lt}
-use borrow.Author.Tests.{lt-ltb, le-ltb, ltb-true, leb-true, eqb-false, not-true}
+use borrow.Author.Tests.{lt-ltb, le-ltb, ltb-false, eqb-true, eqb-false, not-false}
 use Rattle.groups.specs.declared.Reading.the-variants.{Number}
 use Rattle.groups.specs.Groups.{numberAt}
 use Rattle.groups.proofs.Numbers.{read-one, read-two}
 use Rattle.sheets.specs.declared.reader.Entry.{Entry}
 use Rattle.sheets.specs.declared.reader.Entry.the-variants.{Whole, Broken}
-use Rattle.sheets.specs.Said.{Said, fault, sheet, isPart, placed, entries}
+use Rattle.sheets.specs.Said.{Said, fault, sheet, placed, entries}
 use Rattle.sheets.specs.declared.reader.Reach.{Reach}
 use Rattle.sheets.specs.Steps.{afterEntry, FirstEntry, Fits, inFront, toldFrom, Blank, Onward}
 use Rattle.sheets.proofs.Reading.{marks-inside}
-use Rattle.sheets.proofs.Sheets.{isPart-means}
 
 -- ---- one entry, or none
 
@@ -149,69 +148,71 @@ module _ (s : List ℕ) (part : ℕ) where
 
 -- ---- entries of two and of three bytes
 
-pub both : (a b : Bool) → (a && b) ≡ true → (a ≡ true) × (b ≡ true)
-both true true e = (refl, refl)
-both true false e = absurd (let z : _≡_ {A = ℕ} 0 1 = cc in omega arith)
-both false b e = absurd (let z : _≡_ {A = ℕ} 0 1 = cc in omega arith)
+neither : (a b : Bool) → (a || b) ≡ false → (a ≡ false) × (b ≡ false)
+neither false b e = (refl, e)
+neither true b e = absurd (let z : _≡_ {A = ℕ} 0 1 = cc in omega arith)
 
 or-above : (a b : ℕ) → (a ≤ bitOr a b) × (b ≤ bitOr a b)
 or-above a b = let sum = or-add-and a b in let l = and-le-l a b in let r = and-le-r a b in (omega arith, omega arith)
 
-module _ (s : List ℕ) (set left at skip : ℕ) (h : skip < left) (first : skip ≡ getD s at 0) (low : skip < 128) where
-  in-two : (m : ℕ) → at + 1 < length s → m ≡ getD s (at + 1) 0 → m < 128 → isPart set m ≡ true → FirstEntry s set left at (Whole skip m (at + 2))
-  in-two m l second last is =
-      let part = isPart-means set m is in
-      let two : at + 1 + 1 ≡ at + 2 = omega arith in
+module _ (s : List ℕ) (set left at skip m : ℕ) (h : skip < left) (first : skip ≡ getD s at 0) (low : skip < 128)
+    (nz : m ≡ 0 → ⊥) (inside : bitAnd m set ≡ m) where
+  after-skip : (next : ℕ) → at < length s → numberAt s (at + 1) ≡ Number m next → FirstEntry s set left at (Whole skip m next)
+  after-skip next l e =
       marks-inside s set left at skip (at + 1)
-      (read-one s at (omega arith) (rw first at low) ∙ ap (λ (v : ℕ). Number v (at + 1)) (sym first)) h m (at + 2)
-      (read-one s (at + 1) l (rw second at last) ∙ ap₂ Number (sym second) two)
-      (part .0) (part .1)
+      (read-one s at l (rw first at low) ∙ ap (λ (v : ℕ). Number v (at + 1)) (sym first)) h m next e nz inside
 
-  in-three : (b c m : ℕ) → at + 2 < length s → b ≡ getD s (at + 1) 0 → c ≡ getD s (at + 2) 0 → b < 256 → m ≡ b % 128 + c * 128
-      → (leb 128 b && (not (eqb c 0) && ltb c 128)) ≡ true → isPart set m ≡ true → FirstEntry s set left at (Whole skip m (at + 3))
-  in-three b c m l second third byte is groups inside =
-      let more = both (leb 128 b) (not (eqb c 0) && ltb c 128) groups in
-      let last = both (not (eqb c 0)) (ltb c 128) (more .1) in
+  in-two : at + 1 < length s → m ≡ getD s (at + 1) 0 → m < 128 → FirstEntry s set left at (Whole skip m (at + 2))
+  in-two l second last =
       let two : at + 1 + 1 ≡ at + 2 = omega arith in
+      after-skip (at + 2) (omega arith) (read-one s (at + 1) l (rw second at last) ∙ ap₂ Number (sym second) two)
+
+  in-three : (b c : ℕ) → at + 2 < length s → b ≡ getD s (at + 1) 0 → c ≡ getD s (at + 2) 0 → 128 ≤ b → b < 256 → (c ≡ 0 → ⊥) → c < 128
+      → m ≡ b % 128 + c * 128 → FirstEntry s set left at (Whole skip m (at + 3))
+  in-three b c l second third more byte top last is =
+      let two : at + 2 ≡ at + 1 + 1 = omega arith in
       let three : at + 1 + 2 ≡ at + 3 = omega arith in
-      let top : c ≡ getD s (at + 1 + 1) 0 = third ∙ ap (λ (j : ℕ). getD s j 0) (sym two) in
-      let from : 128 ≤ b = leb-true 128 b (more .0) in
-      let nz : c ≡ 0 → ⊥ = eqb-false c 0 (not-true (eqb c 0) (last .0)) in
-      let below : c < 128 = ltb-true c 128 (last .1) in
-      let part = isPart-means set m inside in
-      marks-inside s set left at skip (at + 1)
-      (read-one s at (omega arith) (rw first at low) ∙ ap (λ (v : ℕ). Number v (at + 1)) (sym first)) h m (at + 3)
-      (read-two s (at + 1) (omega arith) (rw second at from) (rw second at byte) (rw top at nz) (rw top at below)
-      ∙ ap₂ Number (ap₂ (λ (u v : ℕ). u % 128 + v * 128) (sym second) (sym top) ∙ sym is) three)
-      (part .0) (part .1)
+      let high : c ≡ getD s (at + 1 + 1) 0 = third ∙ ap (λ (j : ℕ). getD s j 0) two in
+      after-skip (at + 3) (omega arith)
+      (read-two s (at + 1) (omega arith) (rw second at more) (rw second at byte) (rw high at top) (rw high at last)
+      ∙ ap₂ Number (ap₂ (λ (u v : ℕ). u % 128 + v * 128) (sym second) (sym high) ∙ sym is) three)
 
 -- the turns of the loops over them
 module _ (s : List ℕ) (part : ℕ) (old : List ℕ) (from : Reach) (stated : List ℕ) (i at k : ℕ)
     (o : Onward s part old from stated (reach i at k)) where
   pub onward-pair : (a b c d : ℕ) → at + 3 < length s → 1 < k
       → a ≡ getD s at 0 → b ≡ getD s (at + 1) 0 → c ≡ getD s (at + 2) 0 → d ≡ getD s (at + 3) 0
-      → bitOr (bitOr (bitOr a b) c) d < 128 → isPart part b ≡ true → isPart part d ≡ true → i + a + 1 + c < length stated
+      → bitOr (bitOr (bitOr a b) c) d < 128 → (eqb b 0 || eqb d 0) ≡ false
+      → (not (eqb (bitAnd b part) b) || not (eqb (bitAnd d part) d)) ≡ false → i + a + 1 + c < length stated
       → Onward s part old from (set (set stated (i + a) b) (i + a + 1 + c) d) (reach (i + a + 1 + c + 1) (at + 4) (k - 2))
-  onward-pair a b c d l h ea eb ec ed low x y fits =
+  onward-pair a b c d l h ea eb ec ed low nz inside fits =
       let ab = or-above a b in
       let abc = or-above (bitOr a b) c in
       let abcd = or-above (bitOr (bitOr a b) c) d in
+      let z = neither (eqb b 0) (eqb d 0) nz in
+      let p = neither (not (eqb (bitAnd b part) b)) (not (eqb (bitAnd d part) d)) inside in
       let long = length-set stated (i + a) b in
-      let three : at + 2 + 1 ≡ at + 3 = omega arith in
+      let three : at + 3 ≡ at + 2 + 1 = omega arith in
       let four : at + 2 + 2 ≡ at + 4 = omega arith in
       let fewer : k - 1 - 1 ≡ k - 2 = omega arith in
       let one = onward-turn s part old from stated i at k o (Whole a b (at + 2)) a b (at + 2)
-      (in-two s part (length stated - i) at a (omega arith) ea (omega arith) b (omega arith) eb (omega arith) x) refl (omega arith) in
+      (in-two s part (length stated - i) at a b (omega arith) ea (omega arith) (eqb-false b 0 (z .0)) (eqb-true _ b (not-false _ (p .0)))
+      (omega arith) eb (omega arith)) refl (omega arith) in
       let two = onward-turn s part old from (set stated (i + a) b) (i + a + 1) (at + 2) (k - 1) one (Whole c d (at + 2 + 2)) c d (at + 2 + 2)
-      (in-two s part (length (set stated (i + a) b) - (i + a + 1)) (at + 2) c (omega arith) ec (omega arith) d (omega arith)
-      (ed ∙ ap (λ (j : ℕ). getD s j 0) (sym three)) (omega arith) y) refl (omega arith) in
+      (in-two s part (length (set stated (i + a) b) - (i + a + 1)) (at + 2) c d (omega arith) ec (omega arith)
+      (eqb-false d 0 (z .1)) (eqb-true _ d (not-false _ (p .1)))
+      (omega arith) (ed ∙ ap (λ (j : ℕ). getD s j 0) three) (omega arith)) refl (omega arith) in
       rw (← four, ← fewer) two
 
   pub onward-long : (a b c m : ℕ) → at + 2 < length s → 0 < k
       → a ≡ getD s at 0 → b ≡ getD s (at + 1) 0 → c ≡ getD s (at + 2) 0 → b < 256 → m ≡ b % 128 + c * 128
-      → a < 128 → (leb 128 b && (not (eqb c 0) && ltb c 128)) ≡ true → isPart part m ≡ true → i + a < length stated
+      → bitOr a c < 128 → (ltb b 128 || eqb c 0) ≡ false → bitAnd m part ≡ m → i + a < length stated
       → Onward s part old from (set stated (i + a) m) (reach (i + a + 1) (at + 3) (k - 1))
-  onward-long a b c m l h ea eb ec byte is x y z fits =
-      let within = o .blank .within in
+  onward-long a b c m l h ea eb ec byte is low more inside fits =
+      let ac = or-above a c in
+      let e = neither (ltb b 128) (eqb c 0) more in
+      let top = eqb-false c 0 (e .1) in
+      let nz : m ≡ 0 → ⊥ = λ z. top (omega arith) in
       onward-turn s part old from stated i at k o (Whole a m (at + 3)) a m (at + 3)
-      (in-three s part (length stated - i) at a (omega arith) ea x b c m l eb ec byte is y z) refl h
+      (in-three s part (length stated - i) at a m (omega arith) ea (omega arith) nz inside b c l eb ec
+      (ltb-false b 128 (e .0)) byte top (omega arith) is) refl h

@@ -1,12 +1,10 @@
 // Reading a sheet from bytes of any origin, number by number.
 use groups::Reading;
 ghost use mathlib.Core.Path.{_≡_};
-ghost use mathlib.Core.Bool.{not, _&&_};
 ghost use Prim.Native.Nat.{_+_, _-_, _*_, _%_, _<_};
-ghost use lib.Dec.{eqb, ltb, leb};
 ghost use lib.ListN.{length, replicate};
 ghost use Rattle.groups.specs.Groups.{numberAt};
-ghost use Rattle.sheets.specs.Said.{saidFrom, isPart, entries};
+ghost use Rattle.sheets.specs.Said.{saidFrom, entries};
 ghost use Rattle.sheets.specs.Steps.{atMost, afterHead, Few, FirstEntry, Blank, Onward, tells};
 
 // The three numbers at the head of a sheet, and the place past them.
@@ -149,25 +147,12 @@ fn less_three(len: usize) -> usize
     len - 3
 }
 
-fn is_part(marks: u16, set: u16) -> bool
-    ensures { λ r. ⌜ r ≡ isPart set marks ⌝ }
-{
-    (marks != 0) & (marks & set == marks)
-}
-
 // The number of two groups.
 fn joined(low: u16, high: u16) -> u16
     requires { ⌜ high < 256 ⌝ }
     ensures { λ r. ⌜ r ≡ low % 128 + high * 128 ⌝ }
 {
     (low & 127) | (high << 7)
-}
-
-// Whether two bytes are a number of two groups.
-fn two_groups(low: u16, high: u16) -> bool
-    ensures { λ r. ⌜ r ≡ (leb 128 low && (not (eqb high 0) && ltb high 128)) ⌝ }
-{
-    (128 <= low) & ((high != 0) & (high < 128))
 }
 
 // Goes on over entries of two bytes each, two in a turn.
@@ -187,13 +172,16 @@ fn read_pairs(s: &[u8], set: u16, stated: &mut [u16], from: Reach) -> Reach
         let first = point + a as usize;
         let second = first + 1 + c as usize;
         if (a | b | c | d) >= 128 {
-            return Reach { point, at, left };
+            break;
         }
-        if !(is_part(b, set) & is_part(d, set)) {
-            return Reach { point, at, left };
+        if (b == 0) | (d == 0) {
+            break;
+        }
+        if (b & set != b) | (d & set != d) {
+            break;
         }
         if stated.len() <= second {
-            return Reach { point, at, left };
+            break;
         }
         stated[first] = b;
         stated[second] = d;
@@ -219,8 +207,17 @@ fn read_long(s: &[u8], set: u16, stated: &mut [u16], from: Reach) -> Reach
         let c = byte(s[at + 2]);
         let first = point + a as usize;
         let m = joined(b, c);
-        if !((a < 128) & two_groups(b, c) & is_part(m, set) & (first < stated.len())) {
-            return Reach { point, at, left };
+        if (a | c) >= 128 {
+            break;
+        }
+        if (b < 128) | (c == 0) {
+            break;
+        }
+        if m & set != m {
+            break;
+        }
+        if stated.len() <= first {
+            break;
         }
         stated[first] = m;
         point = first + 1;

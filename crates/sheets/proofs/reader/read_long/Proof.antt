@@ -1,19 +1,17 @@
 -- `sheets::reader::read_long` meets its contract, which is also the invariant of its loop. Assumes nothing.
 use Prim.Native.Nat.{_+_, _<_}
 use native.Mathlib.Omega.{arith}
-use mathlib.Core.Path.{_≡_, sym, _∙_}
-use mathlib.Core.Bool.{true, _&&_}
-use lib.Dec.{ltb}
 use lib.ListN.{length}
 use borrow.Author.Needs.{needs}
-use borrow.Author.Tests.{ltb-true, not-false}
+use borrow.Author.Tests.{ltb-true}
 use Rattle.sheets.specs.Steps.{Onward}
-use Rattle.sheets.proofs.Entries.{reach, both, onward-start, onward-long}
+use Rattle.sheets.proofs.Entries.{reach, onward-start, onward-long}
 use Rattle.sheets.proofs.reader.read_long.Statement.{statement}
 use Rattle.sheets.proofs.reader.read_long.Tie as tie
 
 abbrev Inv-loop : tie.InvT-loop
-Inv-loop s set stated₀ near-end point₀ at₀ left₀ stated point at left = Onward s set stated₀ (reach point₀ at₀ left₀) stated (reach point at left)
+Inv-loop s set stated₀ near-end point₀ at₀ left₀ stated point at left =
+    Onward s set stated₀ (reach point₀ at₀ left₀) stated (reach point at left)
 
 abbrev μ-loop : tie.MeasureT-loop
 μ-loop s set stated₀ near-end point₀ at₀ left₀ stated point at left = left
@@ -21,16 +19,6 @@ abbrev μ-loop : tie.MeasureT-loop
 -- three bytes more follow
 near : (c : tie.Then1 Inv-loop μ-loop) → c .before .before .loop .at + 3 < length (c .before .before .before .before .before .before .args .s .now)
 near c = omega (arith, ltb-true (c .before .before .loop .at) (c .before .before .before .less-three .result) (c .if1 .taken), c .before .before .before .less-three .ensures)
-
--- the tests of an entry
-tested : (c : tie.Else2 Inv-loop μ-loop)
-    → (c .before .before .before .before .before .before .before .before .byte .result < 128) × (c .before .before .two-groups .result ≡ true) × (c .before .is-part .result ≡ true)
-    × (c .before .before .before .before .before .before .before .before .before .before .before .before .loop .point + c .before .before .before .before .before .before .before .before .byte .result < length (c .before .before .before .before .before .before .before .before .before .before .before .before .loop .stated))
-tested c =
-    let a = both ((ltb (c .before .before .before .before .before .before .before .before .byte .result) 128 && c .before .before .two-groups .result) && c .before .is-part .result) _ (not-false _ (c .if2 .left)) in
-    let b = both (ltb (c .before .before .before .before .before .before .before .before .byte .result) 128 && c .before .before .two-groups .result) (c .before .is-part .result) (a .0) in
-    let d = both (ltb (c .before .before .before .before .before .before .before .before .byte .result) 128) (c .before .before .two-groups .result) (b .0) in
-    (ltb-true (c .before .before .before .before .before .before .before .before .byte .result) 128 (d .0), d .1, b .1, ltb-true _ _ (a .1))
 
 less-three-requires : tie.Need-less-three-requires Inv-loop μ-loop
 less-three-requires c κs = search needs
@@ -71,29 +59,17 @@ add-first c = search needs
 joined-requires : tie.Need-joined-requires Inv-loop μ-loop
 joined-requires c κs = search needs
 
-two-groups-requires : tie.Need-two-groups-requires Inv-loop μ-loop
-two-groups-requires c κs = search needs
-
-is-part-requires : tie.Need-is-part-requires Inv-loop μ-loop
-is-part-requires c κs = search needs
-
-same-length : tie.Need-same-length Inv-loop μ-loop
-same-length c = c .before .before .before .before .before .before .before .before .before .before .before .before .loop .inv .long
-
-returns : tie.Need-returns Inv-loop μ-loop
-returns c = c .before .before .before .before .before .before .before .before .before .before .before .before .loop .inv
-
 mul-stated : tie.Need-mul-stated Inv-loop μ-loop
 mul-stated c = search needs
 
 slice-write-stated : tie.Need-slice-write-stated Inv-loop μ-loop
-slice-write-stated c = tested c .3
+slice-write-stated c = search needs
 
 add-point : tie.Need-add-point Inv-loop μ-loop
 add-point c = search needs
 
 add-at : tie.Need-add-at Inv-loop μ-loop
-add-at c = omega (arith, near (c .before .before .before .before .before .before .before .before .before .before))
+add-at c = omega (arith, near (c .before .before .before .before .before .before .before .before .before .before .before))
 
 sub-left : tie.Need-sub-left Inv-loop μ-loop
 sub-left c = search needs
@@ -103,25 +79,48 @@ loop-less c = search needs
 
 loop-again : tie.Need-loop-again Inv-loop μ-loop
 loop-again c =
-    let args = c .before .before .before .before .before .before .before .before .before .before .before .before .before .before .before .before .args in
-    let loop = c .before .before .before .before .before .before .before .before .before .before .before .before .loop in
-    let tests = tested c in
+    let args = c .before .before .before .before .before .before .before .before .before .before .before .before .before .before .before .before .before .args in
+    let loop = c .before .before .before .before .before .before .before .before .before .before .before .before .before .loop in
     onward-long (args .s .now) (args .set) (args .stated .now) (args .from) (loop .stated) (loop .point) (loop .at) (loop .left) (loop .inv)
-    (c .before .before .before .before .before .before .before .before .byte .result) (c .before .before .before .before .before .before .byte2 .result) (c .before .before .before .before .byte3 .result) (c .before .before .before .joined .result) (omega (arith, near (c .before .before .before .before .before .before .before .before .before .before))) (c .before .before .before .before .before .before .before .before .before .before .before .loop-test .taken)
-    (c .before .before .before .before .before .before .before .before .byte .ensures .0) (c .before .before .before .before .before .before .byte2 .ensures .0) (c .before .before .before .before .byte3 .ensures .0) (c .before .before .before .before .before .before .byte2 .ensures .1) (c .before .before .before .joined .ensures)
-    (tests .0) (sym (c .before .before .two-groups .ensures) ∙ tests .1) (sym (c .before .is-part .ensures) ∙ tests .2) (tests .3)
+    (c .before .before .before .before .before .before .before .before .before .byte .result) (c .before .before .before .before .before .before .before .byte2 .result) (c .before .before .before .before .before .byte3 .result) (c .before .before .before .before .joined .result) (omega (arith, near (c .before .before .before .before .before .before .before .before .before .before .before))) (c .before .before .before .before .before .before .before .before .before .before .before .before .loop-test .taken)
+    (c .before .before .before .before .before .before .before .before .before .byte .ensures .0) (c .before .before .before .before .before .before .before .byte2 .ensures .0) (c .before .before .before .before .before .byte3 .ensures .0) (c .before .before .before .before .before .before .before .byte2 .ensures .1) (c .before .before .before .before .joined .ensures)
+    (c .before .before .before .if2 .left) (c .before .before .if3 .left) (c .before .if4 .left) (c .if5 .left)
+
+same-length : tie.Need-same-length Inv-loop μ-loop
+same-length c = c .before .before .loop .inv .long
+
+returns : tie.Need-returns Inv-loop μ-loop
+returns c = c .before .before .loop .inv
 
 same-length-2 : tie.Need-same-length-2 Inv-loop μ-loop
-same-length-2 c = c .before .before .loop .inv .long
+same-length-2 c = c .before .loop .inv .long
 
 returns-2 : tie.Need-returns-2 Inv-loop μ-loop
-returns-2 c = c .before .before .loop .inv
+returns-2 c = c .before .loop .inv
 
 same-length-3 : tie.Need-same-length-3 Inv-loop μ-loop
-same-length-3 c = c .before .loop .inv .long
+same-length-3 c = c .before .before .before .before .before .before .before .before .before .before .loop .inv .long
 
 returns-3 : tie.Need-returns-3 Inv-loop μ-loop
-returns-3 c = c .before .loop .inv
+returns-3 c = c .before .before .before .before .before .before .before .before .before .before .loop .inv
+
+same-length-4 : tie.Need-same-length-4 Inv-loop μ-loop
+same-length-4 c = c .before .before .before .before .before .before .before .before .before .before .before .loop .inv .long
+
+returns-4 : tie.Need-returns-4 Inv-loop μ-loop
+returns-4 c = c .before .before .before .before .before .before .before .before .before .before .before .loop .inv
+
+same-length-5 : tie.Need-same-length-5 Inv-loop μ-loop
+same-length-5 c = c .before .before .before .before .before .before .before .before .before .before .before .before .loop .inv .long
+
+returns-5 : tie.Need-returns-5 Inv-loop μ-loop
+returns-5 c = c .before .before .before .before .before .before .before .before .before .before .before .before .loop .inv
+
+same-length-6 : tie.Need-same-length-6 Inv-loop μ-loop
+same-length-6 c = c .before .before .before .before .before .before .before .before .before .before .before .before .before .loop .inv .long
+
+returns-6 : tie.Need-returns-6 Inv-loop μ-loop
+returns-6 c = c .before .before .before .before .before .before .before .before .before .before .before .before .before .loop .inv
 
 pub read-long-spec : {M : Type 1} → statement M
 read-long-spec =
@@ -142,10 +141,6 @@ read-long-spec =
     cast-first
     add-first
     joined-requires
-    two-groups-requires
-    is-part-requires
-    same-length
-    returns
     mul-stated
     slice-write-stated
     add-point
@@ -153,7 +148,15 @@ read-long-spec =
     sub-left
     loop-less
     loop-again
+    same-length
+    returns
     same-length-2
     returns-2
     same-length-3
-    returns-3)
+    returns-3
+    same-length-4
+    returns-4
+    same-length-5
+    returns-5
+    same-length-6
+    returns-6)

@@ -1,17 +1,17 @@
 -- `sheets::reader::read_pairs` meets its contract, which is also the invariant of its loop. Assumes nothing.
 use Prim.Native.Nat.{_+_, _<_}
 use native.Mathlib.Omega.{arith}
-use mathlib.Core.Path.{sym, _∙_}
 use lib.ListN.{length, length-set}
 use borrow.Author.Needs.{needs}
-use borrow.Author.Tests.{ltb-true, not-false}
+use borrow.Author.Tests.{ltb-true}
 use Rattle.sheets.specs.Steps.{Onward}
-use Rattle.sheets.proofs.Entries.{reach, both, onward-start, onward-pair}
+use Rattle.sheets.proofs.Entries.{reach, onward-start, onward-pair}
 use Rattle.sheets.proofs.reader.read_pairs.Statement.{statement}
 use Rattle.sheets.proofs.reader.read_pairs.Tie as tie
 
 abbrev Inv-loop : tie.InvT-loop
-Inv-loop s set stated₀ near-end point₀ at₀ left₀ stated point at left = Onward s set stated₀ (reach point₀ at₀ left₀) stated (reach point at left)
+Inv-loop s set stated₀ near-end point₀ at₀ left₀ stated point at left =
+    Onward s set stated₀ (reach point₀ at₀ left₀) stated (reach point at left)
 
 abbrev μ-loop : tie.MeasureT-loop
 μ-loop s set stated₀ near-end point₀ at₀ left₀ stated point at left = left
@@ -74,30 +74,6 @@ cast-second c = search needs
 add-second-2 : tie.Need-add-second-2 Inv-loop μ-loop
 add-second-2 c = search needs
 
-same-length : tie.Need-same-length Inv-loop μ-loop
-same-length c = c .before .before .before .before .before .before .before .before .before .before .before .loop .inv .long
-
-returns : tie.Need-returns Inv-loop μ-loop
-returns c = c .before .before .before .before .before .before .before .before .before .before .before .loop .inv
-
-is-part-requires : tie.Need-is-part-requires Inv-loop μ-loop
-is-part-requires c κs = search needs
-
-is-part-requires-2 : tie.Need-is-part-requires-2 Inv-loop μ-loop
-is-part-requires-2 c κs = search needs
-
-same-length-2 : tie.Need-same-length-2 Inv-loop μ-loop
-same-length-2 c = c .before .before .before .before .before .before .before .before .before .before .before .before .before .before .loop .inv .long
-
-returns-2 : tie.Need-returns-2 Inv-loop μ-loop
-returns-2 c = c .before .before .before .before .before .before .before .before .before .before .before .before .before .before .loop .inv
-
-same-length-3 : tie.Need-same-length-3 Inv-loop μ-loop
-same-length-3 c = c .before .before .before .before .before .before .before .before .before .before .before .before .before .before .before .loop .inv .long
-
-returns-3 : tie.Need-returns-3 Inv-loop μ-loop
-returns-3 c = c .before .before .before .before .before .before .before .before .before .before .before .before .before .before .before .loop .inv
-
 mul-stated : tie.Need-mul-stated Inv-loop μ-loop
 mul-stated c = search needs
 
@@ -114,7 +90,7 @@ add-point : tie.Need-add-point Inv-loop μ-loop
 add-point c = search needs
 
 add-at : tie.Need-add-at Inv-loop μ-loop
-add-at c = omega (arith, near (c .before .before .before .before .before .before .before .before .before .before .before .before .before))
+add-at c = omega (arith, near (c .before .before .before .before .before .before .before .before .before .before .before .before))
 
 sub-left : tie.Need-sub-left Inv-loop μ-loop
 sub-left c = search needs
@@ -124,25 +100,48 @@ loop-less c = search needs
 
 loop-again : tie.Need-loop-again Inv-loop μ-loop
 loop-again c =
-    let args = c .before .before .before .before .before .before .before .before .before .before .before .before .before .before .before .before .before .before .before .args in
-    let loop = c .before .before .before .before .before .before .before .before .before .before .before .before .before .before .before .loop in
-    let parts = both (c .before .before .before .is-part .result) (c .before .before .is-part2 .result) (not-false _ (c .before .if3 .left)) in
+    let args = c .before .before .before .before .before .before .before .before .before .before .before .before .before .before .before .before .before .before .args in
+    let loop = c .before .before .before .before .before .before .before .before .before .before .before .before .before .before .loop in
     onward-pair (args .s .now) (args .set) (args .stated .now) (args .from) (loop .stated) (loop .point) (loop .at) (loop .left) (loop .inv)
-    (c .before .before .before .before .before .before .before .before .before .before .before .byte .result) (c .before .before .before .before .before .before .before .before .before .byte2 .result) (c .before .before .before .before .before .before .before .byte3 .result) (c .before .before .before .before .before .byte4 .result) (near (c .before .before .before .before .before .before .before .before .before .before .before .before .before)) (c .before .before .before .before .before .before .before .before .before .before .before .before .before .before .loop-test .taken)
-    (c .before .before .before .before .before .before .before .before .before .before .before .byte .ensures .0) (c .before .before .before .before .before .before .before .before .before .byte2 .ensures .0) (c .before .before .before .before .before .before .before .byte3 .ensures .0) (c .before .before .before .before .before .byte4 .ensures .0) (c .before .before .before .before .if2 .left)
-    (sym (c .before .before .before .is-part .ensures) ∙ parts .0) (sym (c .before .before .is-part2 .ensures) ∙ parts .1) (c .if4 .left)
+    (c .before .before .before .before .before .before .before .before .before .before .byte .result) (c .before .before .before .before .before .before .before .before .byte2 .result) (c .before .before .before .before .before .before .byte3 .result) (c .before .before .before .before .byte4 .result) (near (c .before .before .before .before .before .before .before .before .before .before .before .before)) (c .before .before .before .before .before .before .before .before .before .before .before .before .before .loop-test .taken)
+    (c .before .before .before .before .before .before .before .before .before .before .byte .ensures .0) (c .before .before .before .before .before .before .before .before .byte2 .ensures .0) (c .before .before .before .before .before .before .byte3 .ensures .0) (c .before .before .before .before .byte4 .ensures .0)
+    (c .before .before .before .if2 .left) (c .before .before .if3 .left) (c .before .if4 .left) (c .if5 .left)
+
+same-length : tie.Need-same-length Inv-loop μ-loop
+same-length c = c .before .before .loop .inv .long
+
+returns : tie.Need-returns Inv-loop μ-loop
+returns c = c .before .before .loop .inv
+
+same-length-2 : tie.Need-same-length-2 Inv-loop μ-loop
+same-length-2 c = c .before .loop .inv .long
+
+returns-2 : tie.Need-returns-2 Inv-loop μ-loop
+returns-2 c = c .before .loop .inv
+
+same-length-3 : tie.Need-same-length-3 Inv-loop μ-loop
+same-length-3 c = c .before .before .before .before .before .before .before .before .before .before .before .loop .inv .long
+
+returns-3 : tie.Need-returns-3 Inv-loop μ-loop
+returns-3 c = c .before .before .before .before .before .before .before .before .before .before .before .loop .inv
 
 same-length-4 : tie.Need-same-length-4 Inv-loop μ-loop
-same-length-4 c = c .before .before .loop .inv .long
+same-length-4 c = c .before .before .before .before .before .before .before .before .before .before .before .before .loop .inv .long
 
 returns-4 : tie.Need-returns-4 Inv-loop μ-loop
-returns-4 c = c .before .before .loop .inv
+returns-4 c = c .before .before .before .before .before .before .before .before .before .before .before .before .loop .inv
 
 same-length-5 : tie.Need-same-length-5 Inv-loop μ-loop
-same-length-5 c = c .before .loop .inv .long
+same-length-5 c = c .before .before .before .before .before .before .before .before .before .before .before .before .before .loop .inv .long
 
 returns-5 : tie.Need-returns-5 Inv-loop μ-loop
-returns-5 c = c .before .loop .inv
+returns-5 c = c .before .before .before .before .before .before .before .before .before .before .before .before .before .loop .inv
+
+same-length-6 : tie.Need-same-length-6 Inv-loop μ-loop
+same-length-6 c = c .before .before .before .before .before .before .before .before .before .before .before .before .before .before .loop .inv .long
+
+returns-6 : tie.Need-returns-6 Inv-loop μ-loop
+returns-6 c = c .before .before .before .before .before .before .before .before .before .before .before .before .before .before .loop .inv
 
 pub read-pairs-spec : {M : Type 1} → statement M
 read-pairs-spec =
@@ -168,14 +167,6 @@ read-pairs-spec =
     add-second
     cast-second
     add-second-2
-    same-length
-    returns
-    is-part-requires
-    is-part-requires-2
-    same-length-2
-    returns-2
-    same-length-3
-    returns-3
     mul-stated
     slice-write-stated
     mul-stated-2
@@ -185,7 +176,15 @@ read-pairs-spec =
     sub-left
     loop-less
     loop-again
+    same-length
+    returns
+    same-length-2
+    returns-2
+    same-length-3
+    returns-3
     same-length-4
     returns-4
     same-length-5
-    returns-5)
+    returns-5
+    same-length-6
+    returns-6)
