@@ -22,7 +22,7 @@ pub enum Head {
 }
 
 // One marked point: how many unmarked ones are skipped before it, its marks, and the place past it.
-pub enum Entry {
+enum Entry {
     Whole {
         skip: usize,
         marks: u16,
@@ -102,7 +102,7 @@ fn wide(set: u16) -> u64
 }
 
 // The entry at a place, among the points that are left.
-pub fn read_entry(s: &[u8], at: usize, left: usize, set: u16) -> Entry
+fn read_entry(s: &[u8], at: usize, left: usize, set: u16) -> Entry
     ensures { λ r. ⌜ FirstEntry (now (s .entry)) set left at r ⌝ }
 {
     let Reading::Number {
@@ -155,7 +155,7 @@ fn joined(low: u16, high: u16) -> u16
     (low & 127) | (high << 7)
 }
 
-// Goes on over entries of two bytes each, two in a turn.
+// Goes on over entries of two bytes each. Two in a turn take fewer tests than one after the other.
 fn read_pairs(s: &[u8], set: u16, stated: &mut [u16], from: Reach) -> Reach
     requires { ⌜ Blank (now stated) from ⌝ }
     ensures { λ r. ⌜ Onward (now (s .entry)) set (now (stated .entry)) from (now (stated .exit)) r ⌝ }
@@ -165,6 +165,7 @@ fn read_pairs(s: &[u8], set: u16, stated: &mut [u16], from: Reach) -> Reach
     let mut at = from.at;
     let mut left = from.left;
     while 1 < left && at < near_end {
+        // skip, marks, skip, marks
         let a = byte(s[at]);
         let b = byte(s[at + 1]);
         let c = byte(s[at + 2]);
@@ -202,24 +203,24 @@ fn read_long(s: &[u8], set: u16, stated: &mut [u16], from: Reach) -> Reach
     let mut at = from.at;
     let mut left = from.left;
     while 0 < left && at < near_end {
-        let a = byte(s[at]);
-        let b = byte(s[at + 1]);
-        let c = byte(s[at + 2]);
-        let first = point + a as usize;
-        let m = joined(b, c);
-        if (a | c) >= 128 {
+        let skip = byte(s[at]);
+        let low = byte(s[at + 1]);
+        let high = byte(s[at + 2]);
+        let first = point + skip as usize;
+        let marks = joined(low, high);
+        if (skip | high) >= 128 {
             break;
         }
-        if (b < 128) | (c == 0) {
+        if (low < 128) | (high == 0) {
             break;
         }
-        if m & set != m {
+        if marks & set != marks {
             break;
         }
         if stated.len() <= first {
             break;
         }
-        stated[first] = m;
+        stated[first] = marks;
         point = first + 1;
         at += 3;
         left -= 1;
