@@ -47,6 +47,12 @@ pub fn constant(value: f64) -> Vec<f64> {
     vec![value; POINTS]
 }
 
+/// So many of each `of` values beyond the upper limit, in no order, and the others on the centre line.
+pub fn beyond(some: u64, of: u64) -> Vec<f64> {
+    let mut random = Random(4);
+    (0..POINTS).map(|_| if random.bits() % of < some { 29.0 } else { 25.0 }).collect()
+}
+
 /// Positive f64 of every magnitude.
 pub fn positive() -> Vec<f64> {
     let mut random = Random(3);

@@ -91,8 +91,10 @@ fn sheets(turns: usize) {
     );
     for (name, set, values) in [
         ("nelson, few marked", NELSON, data::in_control()),
+        ("nelson, marks of both widths", NELSON, data::beyond(8, 9)),
         ("nelson, nearly all marked", NELSON, data::constant(LIMITS.cl + 1.5)),
         ("shewhart, in control", SHEWHART, data::in_control()),
+        ("shewhart, half marked", SHEWHART, data::beyond(1, 2)),
         ("shewhart, all marked", SHEWHART, data::constant(LIMITS.ucl + 0.5)),
     ] {
         let bytes = data::bytes_of(&values);

@@ -6,7 +6,7 @@ use mathlib.Core.Path.{_≡_, refl, sym, ap, ap₂, _∙_, subst}
 use mathlib.Core.Bool.{Bool, true, false}
 use mathlib.Core.List.{List, [], _∷_, _++_, append-nil}
 use lib.ListN.{length, drop, take, getD}
-use lib.Seq.{drop-append-seam, drop-drop, drop-length}
+use lib.Seq.{drop-append-seam, drop-cons, drop-drop, drop-length}
 use lib.Dec.{ltb, eqb}
 use borrow.Author.Tests.{lt-ltb, le-ltb, ltb-true, ltb-false, eqb-true, eqb-false}
 use Rattle.groups.specs.declared.Reading.{Reading}
@@ -95,6 +95,32 @@ read-there s at x rest h e =
     ap (λ (l : List ℕ). readAs at (front l)) e
     ∙ ap (readAs at) (front-written rest x)
     ∙ read-some at x (length (groups x)) h
+
+-- A byte below 128 is a number by itself.
+pub read-one : (s : List ℕ) (at : ℕ) → at < length s → getD s at 0 < 128 → numberAt s at ≡ Number (getD s at 0) (at + 1)
+read-one s at h low =
+    let b = getD s at 0 in
+    read-there s at b (drop (suc at) s) (omega arith) (drop-cons s at 0 h ∙ ap (λ (g : List ℕ). g ++ drop (suc at) s) (sym (groups-one b low)))
+    ∙ ap (λ (g : List ℕ). Number b (at + length g)) (groups-one b low)
+
+-- A byte from 128 on and a second one below, which is not zero, are a number of two groups.
+pub read-two : (s : List ℕ) (at : ℕ) → at + 1 < length s → 128 ≤ getD s at 0 → getD s at 0 < 256
+    → (getD s (at + 1) 0 ≡ 0 → ⊥) → getD s (at + 1) 0 < 128
+    → numberAt s at ≡ Number (getD s at 0 % 128 + getD s (at + 1) 0 * 128) (at + 2)
+read-two s at h more byte nz low =
+    let b = getD s at 0 in
+    let t = getD s (at + 1) 0 in
+    let x = b % 128 + t * 128 in
+    let next : suc at ≡ at + 1 = omega arith in
+    let first : 128 + x % 128 ≡ b = omega arith in
+    let second : x / 128 ≡ t = omega arith in
+    let string : groups x ≡ b ∷ t ∷ [] =
+    groups-more x (omega arith) ∙ ap₂ (λ (u v : ℕ). u ∷ groups v) first second ∙ ap (λ (g : List ℕ). b ∷ g) (groups-one t low) in
+    let there : drop at s ≡ b ∷ t ∷ drop (suc (at + 1)) s =
+    drop-cons s at 0 (omega arith)
+    ∙ ap (λ (l : List ℕ). b ∷ l) (ap (λ (j : ℕ). drop j s) next ∙ drop-cons s (at + 1) 0 h) in
+    read-there s at x (drop (suc (at + 1)) s) (omega arith) (there ∙ ap (λ (g : List ℕ). g ++ drop (suc (at + 1)) s) (sym string))
+    ∙ ap (λ (g : List ℕ). Number x (at + length g)) string
 
 -- The number v stands at the place `at`: it has at most 64 bits, its one string starts there, and `next` is just past it.
 pub record Stands (s : List ℕ) (at v next : ℕ) : Type 0 where

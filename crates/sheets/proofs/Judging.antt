@@ -1,4 +1,4 @@
--- The checker's answer from the head, the entries and the right marks; and what checking and writing answer and leave behind marking's
+-- The checker's answer from the entries and the right marks; and what checking and writing answer and leave behind marking's
 -- refusals. Assumes nothing.
 use Prim.Native.Nat.{ℕ, suc}
 use native.Mathlib.Omega.{arith}
@@ -13,19 +13,17 @@ use borrow.Author.Tests.{lt-ltb, le-ltb, leb-true, leb-false, eq-eqb, ne-eqb, eq
 use Rattle.laws.specs.Refusals.{firstOf}
 use Rattle.laws.specs.Front.{atFrontIfRoom}
 use Rattle.laws.proofs.Refusals.{passed, refused}
-use Rattle.groups.proofs.Numbers.{Bytes}
 use Rattle.rules.specs.declared.Limits.{Limits}
 use Rattle.floats.specs.Finite.{allFinite}
 use Rattle.rules.specs.Finite.{finiteLimits}
 use Rattle.rules.specs.declared.Marked.{Marked}
 use Rattle.rules.specs.Marking.{numbered, answerOf, marksOf, marksAfter}
 use Rattle.rules.proofs.Meaning.{length-marks}
-use Rattle.sheets.specs.declared.reader.Head.{Head}
-use Rattle.sheets.specs.declared.reader.Head.the-variants.{Names, Faulty}
-use Rattle.sheets.specs.Said.{Said, fault, sheet, entries, said}
+use Rattle.sheets.specs.declared.reader.Entries.{Entries}
+use Rattle.sheets.specs.declared.reader.Entries.the-variants.{Whole, Broken}
+use Rattle.sheets.specs.Said.{Said, said}
 use Rattle.sheets.specs.Answers.{refusal, firstWrong, judged, checkOf, seriesSheet, writeOf, roomAfter}
-use Rattle.sheets.specs.Steps.{afterHead, unlessFault, against, roomFor}
-use Rattle.sheets.proofs.Sheets.{entries-hold}
+use Rattle.sheets.specs.Steps.{tells, roomFor}
 
 -- ---- 9, then 10, then 11
 
@@ -41,38 +39,27 @@ named-other a b c d z = by (eqb a b) (eqb c d) refl refl
     by true false x y = refl
     by false u x y = refl
 
-module _ (s : List ℕ) (bytes : Bytes s) (set : ℕ) (right : List ℕ) (h : Head) (told : said s ≡ afterHead s h) where
-  pub judged-faulty : (p : ℕ) → h ≡ Faulty p → (9, p, 0, 0) ≡ judged set right (said s)
-  judged-faulty p is = sym (ap (judged set right) (told ∙ ap (afterHead s) is))
+-- how the entries came out, and the marks of every point where they are whole
+module _ (set : ℕ) (right : List ℕ) (r : Said) (t : ℕ) (found : Entries) (ms : List ℕ) (told : tells t found ms ≡ r) where
+  said-by : (e : Entries) → found ≡ e → tells t e ms ≡ r
+  said-by e is = ap (λ (x : Entries). tells t x ms) (sym is) ∙ told
 
-  module _ (n t k q : ℕ) (is : h ≡ Names n t k q) where
-    body : said s ≡ entries s t k n q
-    body = told ∙ ap (afterHead s) is
+  pub judged-broken : (p : ℕ) → found ≡ Broken p → (9, p, 0, 0) ≡ judged set right r
+  judged-broken p is = ap (judged set right) (said-by (Broken p) is)
 
-    other-in : ((n ≡ length right) × (t ≡ set) → ⊥) → (r : Said) → entries s t k n q ≡ r
-        → unlessFault (10, 0, 0, 0) r ≡ judged set right r
-    other-in z (fault p) e = refl
-    other-in z (sheet u ms) e =
-        let holds = entries-hold s t k n q u ms bytes e in
-        sym (refused (not (eqb (length ms) (length right) && eqb u set)) (10, 0, 0, 0) [] (firstWrong 0 right ms)
-        (named-other (length ms) (length right) u set (λ b. z (sym (holds .points) ∙ b .0, sym (holds .set-is) ∙ b .1))))
+  module _ (is : found ≡ Whole) where
+    pub judged-other : ((length ms ≡ length right) × (t ≡ set) → ⊥) → (10, 0, 0, 0) ≡ judged set right r
+    judged-other z =
+        sym (refused (not (eqb (length ms) (length right) && eqb t set)) (10, 0, 0, 0) [] (firstWrong 0 right ms)
+        (named-other (length ms) (length right) t set z))
+        ∙ ap (judged set right) (said-by Whole is)
 
-    pub judged-other : ((n ≡ length right) × (t ≡ set) → ⊥) → unlessFault (10, 0, 0, 0) (entries s t k n q) ≡ judged set right (said s)
-    judged-other z = other-in z (entries s t k n q) refl ∙ ap (judged set right) (sym body)
-
-    same-in : n ≡ length right → t ≡ set → (r : Said) → entries s t k n q ≡ r → against 0 right r ≡ judged set right r
+    pub judged-same : length ms ≡ length right → t ≡ set → firstWrong 0 right ms ≡ judged set right r
     unfolding firstOf
-    same-in x y (fault p) e = refl
-    same-in x y (sheet u ms) e =
-        let holds = entries-hold s t k n q u ms bytes e in
-        sym (passed (not (eqb (length ms) (length right) && eqb u set)) (10, 0, 0, 0) [] (firstWrong 0 right ms)
-        (named-same (length ms) (length right) u set (holds .points ∙ x) (holds .set-is ∙ y)))
-
-    pub judged-same : n ≡ length right → t ≡ set → against 0 right (entries s set k (length right) q) ≡ judged set right (said s)
     judged-same x y =
-        ap₂ (λ (u m : ℕ). against 0 right (entries s u k m q)) (sym y) (sym x)
-        ∙ same-in x y (entries s t k n q) refl
-        ∙ ap (judged set right) (sym body)
+        sym (passed (not (eqb (length ms) (length right) && eqb t set)) (10, 0, 0, 0) [] (firstWrong 0 right ms)
+        (named-same (length ms) (length right) t set x y))
+        ∙ ap (judged set right) (said-by Whole is)
 
 -- ---- behind marking's refusals
 

@@ -3,6 +3,7 @@
 mod Points
 pub mod Sheets
 mod Reading
+mod Entries
 mod Comparing
 mod Writing
 pub mod Judging

@@ -6,7 +6,7 @@ use mathlib.Core.Path.{_≡_, refl, sym, ap, _∙_}
 use mathlib.Core.Bool.{Bool, true, false}
 use mathlib.Core.List.{List, [], _∷_, _++_}
 use lib.Dec.{eqb}
-use lib.ListN.{length, replicate}
+use lib.ListN.{length, take, replicate}
 use borrow.Author.Tests.{eqb-true, eqb-false, ne-eqb}
 use Rattle.laws.specs.Bools.{count}
 use Rattle.groups.specs.Groups.{groups}
@@ -68,3 +68,10 @@ zeros-snoc (suc n) ms = ap (λ (l : List ℕ). 0 ∷ l) (zeros-snoc n ms)
 pub zeros-only : (n : ℕ) → replicate {A = ℕ} n 0 ≡ replicate n 0 ++ []
 zeros-only zero = refl
 zeros-only (suc n) = ap (λ (l : List ℕ). 0 ∷ l) (zeros-only n)
+
+-- the front of zeros
+pub zeros-front : (n k : ℕ) → take k (replicate {A = ℕ} n 0) ≡ replicate (length (take k (replicate {A = ℕ} n 0))) 0
+zeros-front zero zero = refl
+zeros-front zero (suc k) = refl
+zeros-front (suc n) zero = refl
+zeros-front (suc n) (suc k) = ap (λ (l : List ℕ). 0 ∷ l) (zeros-front n k)

@@ -2,19 +2,21 @@
 -- Sheet.antt. Definitions only.
 use mathlib.Core.Bool.{cond}
 use mathlib.Core.Path.{_≡_}
-use mathlib.Core.List.{List}
+use mathlib.Core.List.{List, _++_}
 use Prim.Native.Nat.{ℕ, suc, _-_, _*_, _≤_, _<_}
 use lib.Dec.{leb}
-use lib.ListN.{length}
+use lib.ListN.{length, take, drop, replicate}
 use Rattle.groups.specs.declared.Reading.{Reading}
 use Rattle.groups.specs.declared.Reading.the-variants.{Number, Fault}
 use Rattle.sheets.specs.declared.reader.Entry.{Entry}
 use Rattle.sheets.specs.declared.reader.Entry.the-variants.{Whole, Broken}
+use Rattle.sheets.specs.declared.reader.Entries.{Entries}
+use Rattle.sheets.specs.declared.reader.Entries.the-variants as all
+use Rattle.sheets.specs.declared.reader.Reach.{Reach}
 use Rattle.sheets.specs.declared.reader.Head.{Head}
 use Rattle.sheets.specs.declared.reader.Head.the-variants.{Names, Faulty}
 use Rattle.sheets.specs.Sheet.{marked, entriesOf}
 use Rattle.sheets.specs.Said.{Said, fault, sheet, placed, entries}
-use Rattle.sheets.specs.Answers.{Verdict, firstWrong}
 
 -- ---- reading
 
@@ -27,6 +29,11 @@ atMost most at (Number v next) = cond (leb v most) (Number v next) (Fault at)
 abbrev pub afterHead : List ℕ → Head → Said
 afterHead s (Faulty p) = fault p
 afterHead s (Names points set k next) = entries s set k points next
+
+-- there are at most 4,096 points
+abbrev pub Few : Head → Type 0
+Few (Faulty p) = Unit {0}
+Few (Names points set k next) = points ≤ 4096
 
 -- what is said, known the first entry; k more follow
 abbrev pub afterEntry : List ℕ → ℕ → ℕ → ℕ → Entry → Said
@@ -43,17 +50,31 @@ pub record FirstEntry (s : List ℕ) (set left at : ℕ) (e : Entry) : Type 0 wh
   pub goes : (k : ℕ) → entries s set (suc k) left at ≡ afterEntry s set left k e
   pub fits : Fits left e
 
--- ---- checking
+-- marks in front of what the rest says
+abbrev pub inFront : List ℕ → Said → Said
+inFront xs (fault p) = fault p
+inFront xs (sheet set ms) = sheet set (xs ++ ms)
 
--- a form fault comes first, and else it is this
-abbrev pub unlessFault : Verdict → Said → Verdict
-unlessFault v (fault p) = (9, p, 0, 0)
-unlessFault v (sheet set ms) = v
+-- what is said, known how far reading has come: the marks of the points that are passed, in front of what the entries left say
+abbrev pub toldFrom : List ℕ → ℕ → List ℕ → Reach → Said
+toldFrom s set stated r = inFront (take (r .point) stated) (entries s set (r .left) (length stated - r .point) (r .at))
 
--- from position i on: a form fault comes first, and else the first wrong marks
-abbrev pub against : ℕ → List ℕ → Said → Verdict
-against i right (fault p) = (9, p, 0, 0)
-against i right (sheet set ms) = firstWrong i right ms
+-- the points that are not passed have no marks yet
+pub record Blank (stated : List ℕ) (r : Reach) : Type 0 where
+  pub within : r .point ≤ length stated
+  pub zeros : drop (r .point) stated ≡ replicate (length stated - r .point) 0
+
+-- reading has gone on, and the same is said
+pub record Onward (s : List ℕ) (set : ℕ) (old : List ℕ) (from : Reach) (stated : List ℕ) (r : Reach) : Type 0 where
+  pub long : length stated ≡ length old
+  pub same : toldFrom s set old from ≡ toldFrom s set stated r
+  pub blank : Blank stated r
+  pub fewer : r .left ≤ from .left
+
+-- what is said, known how the entries came out and the marks of every point
+abbrev pub tells : ℕ → Entries → List ℕ → Said
+tells set (all.Broken p) ms = fault p
+tells set all.Whole ms = sheet set ms
 
 -- ---- writing
 

@@ -1,107 +1,79 @@
-// The checker: the bytes are read once, nothing of them is kept, and no count in them is trusted.
+// The checker: the bytes are read once, and no count in them is trusted.
 use crate::Checked;
 use crate::reader;
-use crate::reader::Entry;
+use crate::reader::Entries;
 use crate::reader::Head;
 ghost use mathlib.Core.Path.{_≡_};
-ghost use mathlib.Core.List.{[], _∷_, _++_};
-ghost use Prim.Native.Nat.{_-_, _≤_, _<_};
-ghost use lib.ListN.{length, drop, replicate};
+ghost use lib.Dec.{eqb};
+ghost use lib.ListN.{length, replicate};
 ghost use Rattle.sheets.specs.Said.{said, entries};
 ghost use Rattle.sheets.specs.Answers.{checked, firstWrong, judged};
-ghost use Rattle.sheets.specs.Steps.{unlessFault, against};
 
-// The form of the entries from a place to the end of the bytes: where it has no fault, the answer is the one given.
-fn settle(s: &[u8], from: usize, count: usize, points: usize, set: u16, answer: Checked) -> Checked
-    ensures { λ r. ⌜ checked r ≡ unlessFault (checked answer) (entries (now (s .entry)) set count points from) ⌝ }
+// Whether right and stated marks are the same throughout.
+fn agree(right: &[u16], stated: &[u16]) -> bool
+    requires { ⌜ length (now right) ≡ length (now stated) ⌝ }
+    ensures { λ r. ⌜ r ≡ eqb (firstWrong 0 (now (right .entry)) (now (stated .entry)) .0) 0 ⌝ }
 {
-    let mut at = from;
-    let mut left = points;
-    let mut k = count;
-    while 0 < k {
-        match reader::read_entry(s, at, left, set) {
-            Entry::Broken { at: fault } => {
-                return Checked::Form { at: fault };
-            }
-            Entry::Whole {
-                skip,
-                marks: _,
-                next,
-            } => {
-                at = next;
-                left = left - skip - 1;
-                k = k - 1;
-            }
-        }
+    // Going on behind marks that differ lets the loop take several points at a time.
+    let mut same = true;
+    let mut i: usize = 0;
+    while i < right.len() {
+        same = same & (right[i] == stated[i]);
+        i += 1;
     }
-    if at < s.len() {
-        return Checked::Form { at };
-    }
-    answer
+    same
 }
 
-// The right marks of the points from one to another, against a sheet that marks only the last of them: with `stated`.
-fn stretch(marks: &[u16], from: usize, last: usize, stated: u16) -> Checked
-    requires { ⌜ (from ≤ last) × (last < length (now marks)) ⌝ }
-    ensures { λ r. ⌜ checked r ≡ firstWrong from (drop from (now (marks .entry))) (replicate (last - from) 0 ++ (stated ∷ [])) ⌝ }
+// The first point whose right and stated marks differ.
+fn first_wrong(right: &[u16], stated: &[u16]) -> Checked
+    requires { ⌜ length (now right) ≡ length (now stated) ⌝ }
+    ensures { λ r. ⌜ checked r ≡ firstWrong 0 (now (right .entry)) (now (stated .entry)) ⌝ }
 {
-    let mut i = from;
-    while i < last {
-        let right = marks[i];
-        if right != 0 {
+    if agree(right, stated) {
+        return Checked::Accepted;
+    }
+    let mut i: usize = 0;
+    while i < right.len() {
+        let r = right[i];
+        let m = stated[i];
+        if r != m {
             return Checked::Wrong {
                 at: i,
-                right,
-                stated: 0,
+                right: r,
+                stated: m,
             };
         }
         i += 1;
     }
-    let right = marks[last];
-    if right != stated {
-        return Checked::Wrong {
-            at: last,
-            right,
-            stated,
-        };
-    }
     Checked::Accepted
 }
 
-// The right marks against the entries from a place to the end of the bytes.
-fn compare(s: &[u8], from: usize, count: usize, marks: &[u16], set: u16) -> Checked
-    ensures { λ r. ⌜ checked r ≡ against 0 (now (marks .entry)) (entries (now (s .entry)) set count (length (now (marks .entry))) from) ⌝ }
+// The entries that a set names, against another set and its right marks; `stated` is zero for every point that is named.
+fn check_entries(
+    s: &[u8],
+    from: usize,
+    count: usize,
+    named: u16,
+    stated: &mut [u16],
+    right: &[u16],
+    set: u16,
+) -> Checked
+    requires { ⌜ now stated ≡ replicate (length (now stated)) 0 ⌝ }
+    ensures { λ r. ⌜ checked r ≡ judged set (now (right .entry)) (entries (now (s .entry)) named count (length (now (stated .entry))) from) ⌝ }
 {
-    let n = marks.len();
-    let mut i: usize = 0;
-    let mut at = from;
-    let mut k = count;
-    while 0 < k {
-        match reader::read_entry(s, at, n - i, set) {
-            Entry::Broken { at: p } => {
-                return Checked::Form { at: p };
+    let found = reader::read_entries(s, from, count, named, stated);
+    match found {
+        Entries::Broken { at } => Checked::Form { at },
+        Entries::Whole => {
+            if stated.len() != right.len() {
+                return Checked::Differs;
             }
-            Entry::Whole {
-                skip,
-                marks: stated,
-                next,
-            } => {
-                let last = i + skip;
-                let found = stretch(marks, i, last, stated);
-                if found.number() != 0 {
-                    return settle(s, next, k - 1, n - i - skip - 1, set, found);
-                }
-                i = last + 1;
-                at = next;
-                k = k - 1;
+            if named != set {
+                return Checked::Differs;
             }
+            first_wrong(right, stated)
         }
     }
-    if i < n {
-        let found = stretch(marks, i, n - 1, 0);
-        return settle(s, at, 0, n - i, set, found);
-    }
-    settle(s, at, 0, 0, set, Checked::Accepted)
 }
 
 // Whether the bytes are the sheet of the set and its right marks: the form first, then points and set, then the marks.
@@ -116,13 +88,8 @@ pub fn check_marks(marks: &[u16], set: u16, s: &[u8]) -> Checked
             marked,
             next,
         } => {
-            if points != marks.len() {
-                return settle(s, next, marked, points, named, Checked::Differs);
-            }
-            if named != set {
-                return settle(s, next, marked, points, named, Checked::Differs);
-            }
-            compare(s, next, marked, marks, set)
+            let mut stated = [0u16; 4096];
+            check_entries(s, next, marked, named, &mut stated[0..points], marks, set)
         }
     }
 }

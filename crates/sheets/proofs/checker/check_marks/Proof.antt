@@ -1,6 +1,14 @@
--- `sheets::checker::check_marks` meets its contract: the form, then points and set, then the marks. Assumes nothing.
-use mathlib.Core.Path.{_∙_}
-use Rattle.sheets.proofs.Judging.{judged-faulty, judged-other, judged-same}
+-- `sheets::checker::check_marks` meets its contract: the head, and then what the entries say. Assumes nothing.
+use native.Mathlib.Omega.{arith}
+use mathlib.Core.Path.{sym, ap, _∙_, subst}
+use Prim.Native.Nat.{ℕ, _-_}
+use mathlib.Core.Path.{_≡_}
+use lib.ListN.{length, take, replicate, length-replicate}
+use lib.Seq.{length-take-le}
+use Rattle.sheets.specs.Said.{entries}
+use Rattle.sheets.specs.Answers.{judged}
+use Rattle.sheets.specs.Steps.{afterHead, Few}
+use Rattle.sheets.proofs.Points.{zeros-front}
 use borrow.Author.Needs.{needs}
 use Rattle.sheets.proofs.checker.check_marks.Statement.{statement}
 use Rattle.sheets.proofs.checker.check_marks.Tie as tie
@@ -14,60 +22,36 @@ enum-known-at c = search needs
 enum-known-points : tie.Need-enum-known-points
 enum-known-points c = search needs
 
-settle-requires : tie.Need-settle-requires
-settle-requires c κs = search needs
+sub-check-entries : tie.Need-sub-check-entries
+sub-check-entries c = search needs
+
+part-stated-start : tie.Need-part-stated-start
+part-stated-start c = search needs
+
+part-stated-end : tie.Need-part-stated-end
+part-stated-end c =
+    let few = subst Few (c .before .points .given .1) (c .before .before .before .read-head .ensures .1) in
+    omega arith
+
+check-entries-requires : tie.Need-check-entries-requires
+check-entries-requires c κs = zeros-front 4096 (c .before .before .points .given .0 .0 - 0)
 
 returns : tie.Need-returns
 returns c =
-    let args = c .before .before .before .before .before .before .before .before .args in
-    let shared-slice-known2 = c .before .before .before .before .before .before .shared-slice-known2 in
-    let read-head = c .before .before .before .before .before .read-head in
-    let points = c .before .before .before .points in
-    let if1 = c .before .if1 in
-    let settle = c .settle in
-    settle .ensures ∙ judged-other (args .s .now) (λ i. shared-slice-known2 .given i .fits) (args .set) (args .marks .now) (read-head .result)
-    (read-head .ensures) (points .given .0 .0) (points .given .0 .1 .0) (points .given .0 .1 .1 .0) (points .given .0 .1 .1 .1 .0)
-    (points .given .1) (λ e. if1 .taken (e .0))
-
-settle-requires-2 : tie.Need-settle-requires-2
-settle-requires-2 c κs = search needs
+    let args = c .before .before .before .before .before .before .args in
+    ap (judged (args .set) (args .marks .now)) (sym (c .before .before .before .read-head .ensures .0 ∙ ap (afterHead (args .s .now)) (c .before .at .given .1)))
 
 returns-2 : tie.Need-returns-2
 returns-2 c =
     let args = c .before .before .before .before .before .before .before .before .before .args in
-    let shared-slice-known2 = c .before .before .before .before .before .before .before .shared-slice-known2 in
-    let read-head = c .before .before .before .before .before .before .read-head in
     let points = c .before .before .before .before .points in
-    let if2 = c .before .if2 in
-    let settle2 = c .settle2 in
-    settle2 .ensures ∙ judged-other (args .s .now) (λ i. shared-slice-known2 .given i .fits) (args .set) (args .marks .now) (read-head .result)
-    (read-head .ensures) (points .given .0 .0) (points .given .0 .1 .0) (points .given .0 .1 .1 .0) (points .given .0 .1 .1 .1 .0)
-    (points .given .1) (λ e. if2 .taken (e .1))
-
-compare-requires : tie.Need-compare-requires
-compare-requires c κs = search needs
-
-returns-3 : tie.Need-returns-3
-returns-3 c =
-    let args = c .before .before .before .before .before .before .args in
-    let shared-slice-known2 = c .before .before .before .before .shared-slice-known2 in
-    let read-head = c .before .before .before .read-head in
-    let at = c .before .at in
-    judged-faulty (args .s .now) (λ i. shared-slice-known2 .given i .fits) (args .set) (args .marks .now) (read-head .result)
-    (read-head .ensures) (at .given .0 .0) (at .given .1)
-
-returns-4 : tie.Need-returns-4
-returns-4 c =
-    let args = c .before .before .before .before .before .before .before .before .before .args in
-    let shared-slice-known2 = c .before .before .before .before .before .before .before .shared-slice-known2 in
-    let read-head = c .before .before .before .before .before .before .read-head in
-    let points = c .before .before .before .before .points in
-    let if1 = c .before .before .if1 in
-    let if2 = c .before .if2 in
-    let compare = c .compare in
-    compare .ensures ∙ judged-same (args .s .now) (λ i. shared-slice-known2 .given i .fits) (args .set) (args .marks .now) (read-head .result)
-    (read-head .ensures) (points .given .0 .0) (points .given .0 .1 .0) (points .given .0 .1 .1 .0) (points .given .0 .1 .1 .1 .0)
-    (points .given .1) (if1 .left) (if2 .left)
+    let few = subst Few (points .given .1) (c .before .before .before .before .before .before .read-head .ensures .1) in
+    let all : length (take (points .given .0 .0 - 0) (replicate {A = ℕ} 4096 0)) ≡ points .given .0 .0 =
+    length-take-le (points .given .0 .0 - 0) (replicate 4096 0) (omega (arith, length-replicate {A = ℕ} 4096 0)) ∙ omega arith in
+    c .before .check-entries .ensures
+    ∙ ap (judged (args .set) (args .marks .now))
+    (ap (λ (n : ℕ). entries (args .s .now) (points .given .0 .1 .0) (points .given .0 .1 .1 .0) n (points .given .0 .1 .1 .1 .0)) all
+    ∙ sym (c .before .before .before .before .before .before .read-head .ensures .0 ∙ ap (afterHead (args .s .now)) (points .given .1)))
 
 pub check-marks-spec : {M : Type 1} → statement M
 check-marks-spec =
@@ -76,10 +60,9 @@ check-marks-spec =
     read-head-requires
     enum-known-at
     enum-known-points
-    settle-requires
+    sub-check-entries
+    part-stated-start
+    part-stated-end
+    check-entries-requires
     returns
-    settle-requires-2
-    returns-2
-    compare-requires
-    returns-3
-    returns-4)
+    returns-2)

@@ -20,7 +20,7 @@ returns : tie.Need-returns
 unfolding saidFrom
 returns c =
     let args = c .before .before .before .before .args in
-    number-fault 4096 0 _ (args .s .now) _ (sym (c .before .before .read-at-most .ensures) ∙ c .enum-told .given .1)
+    (number-fault 4096 0 _ (args .s .now) _ (sym (c .before .before .read-at-most .ensures) ∙ c .enum-told .given .1), tt)
 
 read-at-most-requires-2 : tie.Need-read-at-most-requires-2
 read-at-most-requires-2 c κs = search needs
@@ -41,7 +41,7 @@ returns-2 c =
     let enum-told2 = c .enum-told2 in
     let first = number-read 4096 0 _ (args .s .now) (points .given .0 .0) (points .given .0 .1 .0)
     (sym (read-at-most .ensures) ∙ points .given .1) in
-    first ∙ number-fault 511 (points .given .0 .1 .0) _ (args .s .now) _ (sym (read-at-most2 .ensures) ∙ enum-told2 .given .1)
+    (first ∙ number-fault 511 (points .given .0 .1 .0) _ (args .s .now) _ (sym (read-at-most2 .ensures) ∙ enum-told2 .given .1), tt)
 
 read-at-most-requires-3 : tie.Need-read-at-most-requires-3
 read-at-most-requires-3 c κs = search needs
@@ -65,9 +65,11 @@ returns-3 c =
     let first = number-read 4096 0 _ (args .s .now) (points .given .0 .0) (points .given .0 .1 .0)
     (sym (read-at-most .ensures) ∙ points .given .1) in
     let second = number-read 511 (points .given .0 .1 .0) _ (args .s .now) (set .given .0 .0) (set .given .0 .1 .0)
-    (sym (read-at-most2 .ensures) ∙ set .given .1) in
-    first ∙ second ∙ number-fault (points .given .0 .0) (set .given .0 .1 .0) _ (args .s .now) _
-    (sym (read-at-most3 .ensures) ∙ enum-told3 .given .1)
+    (sym (read-at-most2 .ensures) ∙ set .given .1) in (
+      first ∙ second ∙ number-fault (points .given .0 .0) (set .given .0 .1 .0) _ (args .s .now) _
+          (sym (read-at-most3 .ensures) ∙ enum-told3 .given .1),
+      tt,
+    )
 
 cast-t12 : tie.Need-cast-t12
 cast-t12 c =
@@ -95,8 +97,11 @@ returns-4 c =
     (sym (read-at-most .ensures) ∙ points .given .1) in
     let second = number-read 511 (points .given .0 .1 .0) _ (args .s .now) (set .given .0 .0) (set .given .0 .1 .0)
     (sym (read-at-most2 .ensures) ∙ set .given .1) in
-    first ∙ second ∙ number-read (points .given .0 .0) (set .given .0 .1 .0) _ (args .s .now) (marked .given .0 .0) (marked .given .0 .1 .0)
-    (sym (read-at-most3 .ensures) ∙ marked .given .1)
+    let few = number-low 4096 0 (args .s .now) (points .given .0 .0) (points .given .0 .1 .0) (sym (read-at-most .ensures) ∙ points .given .1) in (
+      first ∙ second ∙ number-read (points .given .0 .0) (set .given .0 .1 .0) _ (args .s .now) (marked .given .0 .0) (marked .given .0 .1 .0)
+          (sym (read-at-most3 .ensures) ∙ marked .given .1),
+      few,
+    )
 
 pub read-head-spec : {M : Type 1} → statement M
 read-head-spec =
