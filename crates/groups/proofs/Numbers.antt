@@ -31,7 +31,7 @@ front-written rest = by-groups (λ (x : ℕ). front (groups x ++ rest) ≡ some 
     ∙ before-some ((128 + x % 128) % 128) (x / 128) (length (groups (x / 128))) (omega arith)
     ∙ ap (λ (v : ℕ). some v (suc (length (groups (x / 128))))) value))
 
-not-some : {A : Type 0} {v n : ℕ} → none ≡ some v n → A
+pub not-some : {A : Type 0} {v n : ℕ} → none ≡ some v n → A
 not-some {A} {v} {n} e = absurd (let z : _≡_ {A = ℕ} 0 1 = cc in omega arith)
 
 module _ (b : ℕ) (bs : List ℕ) (small : b < 256) (v n : ℕ) (is : front (b ∷ bs) ≡ some v n) where
@@ -128,7 +128,7 @@ pub record Stands (s : List ℕ) (at v next : ℕ) : Type 0 where
   pub past : next ≡ at + length (groups v)
   pub string : drop at s ≡ groups v ++ drop next s
 
-not-number : {A : Type 0} {at v next : ℕ} → Fault at ≡ Number v next → A
+pub not-number : {A : Type 0} {at v next : ℕ} → Fault at ≡ Number v next → A
 not-number {A} {at} {v} {next} e = absurd (let z : _≡_ {A = ℕ} 0 1 = cc in omega arith)
 
 stands-by : (s : List ℕ) (at v next : ℕ) → Bytes (drop at s) → (r : Front) → front (drop at s) ≡ r → readAs at r ≡ Number v next → Stands s at v next

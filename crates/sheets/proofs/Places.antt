@@ -17,7 +17,7 @@ use Rattle.groups.specs.declared.Reading.{Reading}
 use Rattle.groups.specs.declared.Reading.the-variants.{Number, Fault}
 use Rattle.groups.specs.Groups.{groups, Front, some, none, before, front, readAs, numberAt}
 use Rattle.groups.proofs.Strings.{before-zero, before-some, front-one, front-more}
-use Rattle.groups.proofs.Numbers.{read-some, read-over, read-there}
+use Rattle.groups.proofs.Numbers.{read-some, read-over, read-there, not-some, not-number}
 use Rattle.rules.specs.declared.Limits.{Limits}
 use Rattle.floats.specs.Finite.{allFinite}
 use Rattle.rules.specs.Finite.{finiteLimits}
@@ -30,12 +30,8 @@ use Rattle.sheets.specs.Said.{Said, fault, sheet, onward, number, isPart
 use Rattle.sheets.specs.Answers.{Verdict, refusal, firstWrong, judged, checkOf, seriesSheet, writeOf}
 use Rattle.sheets.proofs.Points.{marked-le, entriesOf-none, entriesOf-zero, entriesOf-mark}
 use Rattle.sheets.proofs.Sheets.{isPart-means}
-use Rattle.sheets.proofs.Reading.{not-number}
 
 -- ---- a number takes at most ten bytes
-
-not-some : {A : Type 0} {v n : ℕ} → none ≡ some v n → A
-not-some {A} {v} {n} e = absurd (let z : _≡_ {A = ℕ} 0 1 = cc in omega arith)
 
 -- a group with more to come, in front of a number of m bytes
 more-bytes : (low w m v n k : ℕ) → before low (some w m) ≡ some v n → v < 128 ^ suc k

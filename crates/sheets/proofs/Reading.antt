@@ -8,6 +8,7 @@ use mathlib.Core.List.{List}
 use lib.Bits.{bitAnd}
 use lib.Dec.{ltb, leb}
 use borrow.Author.Tests.{lt-ltb, le-ltb, le-leb, lt-leb, leb-true, eq-eqb, ne-eqb}
+use Rattle.groups.proofs.Numbers.{not-number}
 use Rattle.groups.specs.declared.Reading.{Reading}
 use Rattle.groups.specs.declared.Reading.the-variants.{Number, Fault}
 use Rattle.groups.specs.Groups.{numberAt}
@@ -27,10 +28,7 @@ module _ (most at : ℕ) (r : Reading) where
   pub most-over : (v next : ℕ) → r ≡ Number v next → most < v → Fault at ≡ atMost most at r
   most-over v next e h = sym (ap (atMost most at) e ∙ simp (lt-leb v most h))
 
-pub not-number : {A : Type 0} {at v next : ℕ} → Fault at ≡ Number v next → A
-not-number {A} {at} {v} {next} e = absurd (let z : _≡_ {A = ℕ} 0 1 = cc in omega arith)
-
-not-fault : {A : Type 0} {at v next : ℕ} → Number v next ≡ Fault at → A
+pub not-fault : {A : Type 0} {at v next : ℕ} → Number v next ≡ Fault at → A
 not-fault e = not-number (sym e)
 
 module _ (most at : ℕ) (rest : ℕ → ℕ → Said) where

@@ -2,7 +2,7 @@
 use Prim.Native.Nat.{ℕ, _+_, _*_, _^_}
 use native.Mathlib.Nat.{add-comm, mod-eq-of-lt}
 use native.Mathlib.Omega.{arith}
-use mathlib.Core.Path.{ap, ap₂, _∙_}
+use mathlib.Core.Path.{ap, _∙_}
 use lib.Bits.{bitAnd, bitOr, or-shifted-r, and-mask, mask-lt}
 use Rattle.sheets.proofs.reader.joined.Statement.{statement}
 use Rattle.sheets.proofs.reader.joined.Tie as tie
