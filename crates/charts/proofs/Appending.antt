@@ -1,14 +1,11 @@
 -- A sample appended: what the code leaves of the values is what the definition says. Assumes nothing.
 use mathlib.Core.Path.{_≡_, sym, ap₂, _∙_}
 use mathlib.Core.List.{List, _++_}
-use Prim.Native.Nat.{ℕ, _+_, _-_, _*_, _≤_, _<_}
+use Prim.Native.Nat.{ℕ, _+_, _-_, _*_, _≤_}
 use native.Mathlib.Nat.{add-sub-cancel-left}
 use native.Mathlib.Omega.{arith}
 use lib.Ieee.{Float}
 use lib.ListN.{length, take, drop, length-append, length-take, length-drop}
-use mir.Syntax.{w64}
-use mir.Val.{Fits}
-use mir.Facts.{fits-le, fits-lit}
 use Rattle.charts.specs.declared.Chart.{Chart}
 use Rattle.charts.specs.Records.{valuesAfter}
 
@@ -21,10 +18,6 @@ unfolding valuesAfter
 appended c values sample part e n =
     ap₂ (λ (p : List Float) (k : ℕ). take (c .count * c .size) values ++ (p ++ drop k (drop (c .count * c .size) values))) e
     (add-sub-cancel-left (c .count * c .size) (c .size) ∙ sym n)
-
--- a chart that is not full can count one more
-pub one-more : (n : ℕ) → n < 4096 → Fits w64 (n + 1)
-one-more n h = fits-le {n = 4096} (omega arith) (fits-lit tt)
 
 module _ (c : Chart) (values : List Float) (room : c .count * c .size + c .size ≤ length values) where
   -- the part that is lent is as long as a sample

@@ -8,7 +8,7 @@ use Rattle.laws.proofs.Refusals.{passed, refused, none-applies}
 use Rattle.charts.specs.Records.{addOf, valuesAfter}
 use Rattle.charts.proofs.Cases.{told, told-not}
 use Rattle.charts.proofs.Held.{held}
-use Rattle.charts.proofs.Appending.{appended, one-more, lent-length, kept-length}
+use Rattle.charts.proofs.Appending.{appended, lent-length, kept-length}
 use borrow.Author.Needs.{needs}
 use Rattle.charts.proofs.Chart.add.Statement.{statement}
 use Rattle.charts.proofs.Chart.add.Tie as tie
@@ -109,7 +109,7 @@ copy-requires c κs =
     lent-length (args .self) (args .values .now) (if5 .left) (args .sample .now) (if2 .left)
 
 add-count : tie.Need-add-count
-add-count c = one-more _ (c .before .before .before .before .before .before .before .before .if4 .left)
+add-count c = search needs
 
 same-length : tie.Need-same-length
 same-length c =
