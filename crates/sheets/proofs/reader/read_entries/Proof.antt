@@ -56,7 +56,7 @@ sub-read-entry : tie.Need-sub-read-entry Inv-loop μ-loop
 sub-read-entry c = omega (arith, came (c .before .before) .blank .within)
 
 read-entry-requires : tie.Need-read-entry-requires Inv-loop μ-loop
-read-entry-requires c κs = search needs
+read-entry-requires c κs = tt
 
 enum-known-at : tie.Need-enum-known-at Inv-loop μ-loop
 enum-known-at c = search needs
@@ -89,7 +89,7 @@ add-t20 : tie.Need-add-t20 Inv-loop μ-loop
 add-t20 c = omega (arith, fits (c .before), came (c .before .before .before .before .before .before .before) .long, small (c .before .before .before .before .before .before .before .before .before .before .before .before .before .before .before .before .before .before .before .before .before))
 
 sub-t22 : tie.Need-sub-t22 Inv-loop μ-loop
-sub-t22 c = search needs
+sub-t22 c = omega arith
 
 loop-less : tie.Need-loop-less Inv-loop μ-loop
 loop-less c = omega (arith, c .before .before .before .before .before .before .before .before .before .before .before .before .before .before .before .read-pairs .ensures .fewer, c .before .before .before .before .before .before .before .before .before .before .before .read-long .ensures .fewer)
