@@ -6,10 +6,10 @@ use mathlib.Core.Path.{_≡_, refl, sym, ap, ap₂, _∙_, subst}
 use mathlib.Core.Bool.{Bool, true, false, not, _||_}
 use mathlib.Core.List.{List, [], _∷_, _++_, append-assoc}
 use lib.Bits.{bitAnd, bitOr, or-add-and, and-le-l, and-le-r}
-use lib.Dec.{eqb, ltb}
+use lib.Dec.{eqb, ltb, leb}
 use lib.ListN.{length, take, drop, getD, set, replicate, length-set, length-replicate, take-append-drop, replicate-append-replicate}
 use lib.Seq.{take-at, drop-at, take-add, drop-drop, take-suc-set, drop-set-lt}
-use borrow.Author.Tests.{lt-ltb, le-ltb, ltb-false, eqb-true, eqb-false, not-false}
+use borrow.Author.Tests.{lt-ltb, le-ltb, ltb-false, leb-false, eqb-true, eqb-false, not-false}
 use Rattle.groups.specs.declared.Reading.the-variants.{Number}
 use Rattle.groups.specs.Groups.{numberAt}
 use Rattle.groups.proofs.Numbers.{read-one, read-two}
@@ -177,42 +177,55 @@ module _ (s : List ℕ) (set left at skip m : ℕ) (h : skip < left) (first : sk
       (read-two s (at + 1) (omega arith) (rw second at more) (rw second at byte) (rw high at top) (rw high at last)
       ∙ ap₂ Number (ap₂ (λ (u v : ℕ). u % 128 + v * 128) (sym second) (sym high) ∙ sym is) three)
 
+-- room for the point, behind the first test of a loop
+pub has-room : (a b : Bool) (n j : ℕ) → ((leb n j || a) || b) ≡ false → j < n
+has-room a b n j e = leb-false n j (neither (leb n j) a (neither (leb n j || a) b e .0) .0)
+
 -- the turns of the loops over them
 module _ (s : List ℕ) (part : ℕ) (old : List ℕ) (from : Reach) (stated : List ℕ) (i at k : ℕ)
     (o : Onward s part old from stated (reach i at k)) where
   pub onward-pair : (a b c d : ℕ) → at + 3 < length s → 1 < k
       → a ≡ getD s at 0 → b ≡ getD s (at + 1) 0 → c ≡ getD s (at + 2) 0 → d ≡ getD s (at + 3) 0
-      → bitOr (bitOr (bitOr a b) c) d < 128 → (eqb b 0 || eqb d 0) ≡ false
-      → (not (eqb (bitAnd b part) b) || not (eqb (bitAnd d part) d)) ≡ false → i + a + 1 + c < length stated
+      → ((leb (length stated) (i + a + 1 + c) || eqb b 0) || eqb d 0) ≡ false
+      → ((not (eqb (bitAnd b part) b) || not (eqb (bitAnd d part) d)) || leb 128 (bitOr (bitOr (bitOr a b) c) d)) ≡ false
       → Onward s part old from (set (set stated (i + a) b) (i + a + 1 + c) d) (reach (i + a + 1 + c + 1) (at + 4) (k - 2))
-  onward-pair a b c d l h ea eb ec ed low nz inside fits =
+  onward-pair a b c d l h ea eb ec ed room inside =
+      let x = neither (leb (length stated) (i + a + 1 + c) || eqb b 0) (eqb d 0) room in
+      let y = neither (leb (length stated) (i + a + 1 + c)) (eqb b 0) (x .0) in
+      let z = neither (not (eqb (bitAnd b part) b) || not (eqb (bitAnd d part) d)) (leb 128 (bitOr (bitOr (bitOr a b) c) d)) inside in
+      let p = neither (not (eqb (bitAnd b part) b)) (not (eqb (bitAnd d part) d)) (z .0) in
+      let fits = leb-false (length stated) (i + a + 1 + c) (y .0) in
+      let low = leb-false 128 (bitOr (bitOr (bitOr a b) c) d) (z .1) in
       let ab = or-above a b in
       let abc = or-above (bitOr a b) c in
       let abcd = or-above (bitOr (bitOr a b) c) d in
-      let z = neither (eqb b 0) (eqb d 0) nz in
-      let p = neither (not (eqb (bitAnd b part) b)) (not (eqb (bitAnd d part) d)) inside in
       let long = length-set stated (i + a) b in
       let three : at + 3 ≡ at + 2 + 1 = omega arith in
       let four : at + 2 + 2 ≡ at + 4 = omega arith in
       let fewer : k - 1 - 1 ≡ k - 2 = omega arith in
       let one = onward-turn s part old from stated i at k o (Whole a b (at + 2)) a b (at + 2)
-      (in-two s part (length stated - i) at a b (omega arith) ea (omega arith) (eqb-false b 0 (z .0)) (eqb-true _ b (not-false _ (p .0)))
+      (in-two s part (length stated - i) at a b (omega arith) ea (omega arith) (eqb-false b 0 (y .1)) (eqb-true _ b (not-false _ (p .0)))
       (omega arith) eb (omega arith)) refl (omega arith) in
       let two = onward-turn s part old from (set stated (i + a) b) (i + a + 1) (at + 2) (k - 1) one (Whole c d (at + 2 + 2)) c d (at + 2 + 2)
       (in-two s part (length (set stated (i + a) b) - (i + a + 1)) (at + 2) c d (omega arith) ec (omega arith)
-      (eqb-false d 0 (z .1)) (eqb-true _ d (not-false _ (p .1)))
+      (eqb-false d 0 (x .1)) (eqb-true _ d (not-false _ (p .1)))
       (omega arith) (ed ∙ ap (λ (j : ℕ). getD s j 0) three) (omega arith)) refl (omega arith) in
       rw (← four, ← fewer) two
 
   pub onward-long : (a b c m : ℕ) → at + 2 < length s → 0 < k
       → a ≡ getD s at 0 → b ≡ getD s (at + 1) 0 → c ≡ getD s (at + 2) 0 → b < 256 → m ≡ b % 128 + c * 128
-      → bitOr a c < 128 → (ltb b 128 || eqb c 0) ≡ false → bitAnd m part ≡ m → i + a < length stated
+      → ((leb (length stated) (i + a) || ltb b 128) || eqb c 0) ≡ false
+      → (not (eqb (bitAnd m part) m) || leb 128 (bitOr a c)) ≡ false
       → Onward s part old from (set stated (i + a) m) (reach (i + a + 1) (at + 3) (k - 1))
-  onward-long a b c m l h ea eb ec byte is low more inside fits =
+  onward-long a b c m l h ea eb ec byte is room inside =
+      let x = neither (leb (length stated) (i + a) || ltb b 128) (eqb c 0) room in
+      let y = neither (leb (length stated) (i + a)) (ltb b 128) (x .0) in
+      let p = neither (not (eqb (bitAnd m part) m)) (leb 128 (bitOr a c)) inside in
+      let fits = leb-false (length stated) (i + a) (y .0) in
+      let low = leb-false 128 (bitOr a c) (p .1) in
       let ac = or-above a c in
-      let e = neither (ltb b 128) (eqb c 0) more in
-      let top = eqb-false c 0 (e .1) in
+      let top = eqb-false c 0 (x .1) in
       let nz : m ≡ 0 → ⊥ = λ z. top (omega arith) in
       onward-turn s part old from stated i at k o (Whole a m (at + 3)) a m (at + 3)
-      (in-three s part (length stated - i) at a m (omega arith) ea (omega arith) nz inside b c l eb ec
-      (ltb-false b 128 (e .0)) byte top (omega arith) is) refl h
+      (in-three s part (length stated - i) at a m (omega arith) ea (omega arith) nz (eqb-true _ m (not-false _ (p .0))) b c l eb ec
+      (ltb-false b 128 (y .1)) byte top (omega arith) is) refl h

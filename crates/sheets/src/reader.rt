@@ -172,16 +172,10 @@ fn read_pairs(s: &[u8], set: u16, stated: &mut [u16], from: Reach) -> Reach
         let d = byte(s[at + 3]);
         let first = point + a as usize;
         let second = first + 1 + c as usize;
-        if (a | b | c | d) >= 128 {
+        if (stated.len() <= second) | (b == 0) | (d == 0) {
             break;
         }
-        if (b == 0) | (d == 0) {
-            break;
-        }
-        if (b & set != b) | (d & set != d) {
-            break;
-        }
-        if stated.len() <= second {
+        if (b & set != b) | (d & set != d) | ((a | b | c | d) >= 128) {
             break;
         }
         stated[first] = b;
@@ -208,16 +202,10 @@ fn read_long(s: &[u8], set: u16, stated: &mut [u16], from: Reach) -> Reach
         let high = byte(s[at + 2]);
         let first = point + skip as usize;
         let marks = joined(low, high);
-        if (skip | high) >= 128 {
+        if (stated.len() <= first) | (low < 128) | (high == 0) {
             break;
         }
-        if (low < 128) | (high == 0) {
-            break;
-        }
-        if marks & set != marks {
-            break;
-        }
-        if stated.len() <= first {
+        if (marks & set != marks) | ((skip | high) >= 128) {
             break;
         }
         stated[first] = marks;

@@ -18,16 +18,16 @@ slice-aggregate-mark : tie.Need-slice-aggregate-mark
 slice-aggregate-mark c = search needs
 
 mark-requires : tie.Need-mark-requires
-mark-requires c κs = search needs
+mark-requires c κs = tt
 
 enum-told : tie.Need-enum-told
 enum-told c = search needs
 
 sub-check-marks : tie.Need-sub-check-marks
-sub-check-marks c = search needs
+sub-check-marks c = omega arith
 
 part-check-marks-start : tie.Need-part-check-marks-start
-part-check-marks-start c = search needs
+part-check-marks-start c = omega arith
 
 part-check-marks-end : tie.Need-part-check-marks-end
 part-check-marks-end c =

@@ -21,16 +21,16 @@ slice-aggregate-mark : tie.Need-slice-aggregate-mark
 slice-aggregate-mark c = search needs
 
 mark-requires : tie.Need-mark-requires
-mark-requires c κs = search needs
+mark-requires c κs = tt
 
 enum-told : tie.Need-enum-told
 enum-told c = search needs
 
 sub-write-marks : tie.Need-sub-write-marks
-sub-write-marks c = search needs
+sub-write-marks c = omega arith
 
 part-write-marks-start : tie.Need-part-write-marks-start
-part-write-marks-start c = search needs
+part-write-marks-start c = omega arith
 
 part-write-marks-end : tie.Need-part-write-marks-end
 part-write-marks-end c =
@@ -69,7 +69,7 @@ enum-told-5 : tie.Need-enum-told-5
 enum-told-5 c = search needs
 
 same-length : tie.Need-same-length
-same-length c = search needs
+same-length c = omega arith
 
 returns : tie.Need-returns
 unfolding seriesSheet

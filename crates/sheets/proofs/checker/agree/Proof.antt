@@ -1,4 +1,5 @@
 -- `sheets::checker::agree` meets its contract: what was seen and the points that are left say what all of them say. Assumes nothing.
+use native.Mathlib.Omega.{arith}
 use Prim.Native.Nat.{_-_, _≤_}
 use mathlib.Core.Path.{_≡_, refl, sym, ap, _∙_}
 use mathlib.Core.Bool.{_&&_, and-true}
@@ -21,22 +22,22 @@ loop-holds : tie.Need-loop-holds Inv-loop μ-loop
 loop-holds c = (search needs, refl)
 
 mul-same : tie.Need-mul-same Inv-loop μ-loop
-mul-same c = search needs
+mul-same c = omega arith
 
 shared-slice-read-same : tie.Need-shared-slice-read-same Inv-loop μ-loop
-shared-slice-read-same c = search needs
+shared-slice-read-same c = omega arith
 
 mul-same-2 : tie.Need-mul-same-2 Inv-loop μ-loop
-mul-same-2 c = search needs
+mul-same-2 c = omega arith
 
 shared-slice-read-same-2 : tie.Need-shared-slice-read-same-2 Inv-loop μ-loop
-shared-slice-read-same-2 c = search needs
+shared-slice-read-same-2 c = omega arith
 
 add-i : tie.Need-add-i Inv-loop μ-loop
-add-i c = search needs
+add-i c = omega arith
 
 loop-less : tie.Need-loop-less Inv-loop μ-loop
-loop-less c = search needs
+loop-less c = omega arith
 
 loop-again : tie.Need-loop-again Inv-loop μ-loop
 loop-again c =

@@ -1,4 +1,5 @@
 -- `sheets::checker::check_entries` meets its contract: the form, then points and set, then the marks. Assumes nothing.
+use native.Mathlib.Omega.{arith}
 use mathlib.Core.Path.{_∙_}
 use Rattle.sheets.proofs.Judging.{judged-broken, judged-other, judged-same}
 use borrow.Author.Needs.{needs}
@@ -15,7 +16,7 @@ enum-told : tie.Need-enum-told
 enum-told c = search needs
 
 same-length : tie.Need-same-length
-same-length c = search needs
+same-length c = omega arith
 
 returns : tie.Need-returns
 returns c =
@@ -23,7 +24,7 @@ returns c =
     judged-other (args .set) (args .right .now) _ (args .named) _ _ (c .before .before .before .before .before .read-entries .ensures) (c .before .enum-told .given .1) (λ e. c .if1 .taken (e .0))
 
 same-length-2 : tie.Need-same-length-2
-same-length-2 c = search needs
+same-length-2 c = omega arith
 
 returns-2 : tie.Need-returns-2
 returns-2 c =
@@ -34,7 +35,7 @@ first-wrong-requires : tie.Need-first-wrong-requires
 first-wrong-requires c κs = search needs
 
 same-length-3 : tie.Need-same-length-3
-same-length-3 c = search needs
+same-length-3 c = omega arith
 
 returns-3 : tie.Need-returns-3
 returns-3 c =
@@ -42,7 +43,7 @@ returns-3 c =
     judged-broken (args .set) (args .right .now) _ (args .named) _ _ (c .before .before .before .before .before .read-entries .ensures) (c .before .found .given .0 .0) (c .before .found .given .1)
 
 same-length-4 : tie.Need-same-length-4
-same-length-4 c = search needs
+same-length-4 c = omega arith
 
 returns-4 : tie.Need-returns-4
 returns-4 c =

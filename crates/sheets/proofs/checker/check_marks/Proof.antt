@@ -14,7 +14,7 @@ use Rattle.sheets.proofs.checker.check_marks.Statement.{statement}
 use Rattle.sheets.proofs.checker.check_marks.Tie as tie
 
 read-head-requires : tie.Need-read-head-requires
-read-head-requires c κs = search needs
+read-head-requires c κs = tt
 
 enum-known-at : tie.Need-enum-known-at
 enum-known-at c = search needs
@@ -23,10 +23,10 @@ enum-known-points : tie.Need-enum-known-points
 enum-known-points c = search needs
 
 sub-check-entries : tie.Need-sub-check-entries
-sub-check-entries c = search needs
+sub-check-entries c = omega arith
 
 part-stated-start : tie.Need-part-stated-start
-part-stated-start c = search needs
+part-stated-start c = omega arith
 
 part-stated-end : tie.Need-part-stated-end
 part-stated-end c =

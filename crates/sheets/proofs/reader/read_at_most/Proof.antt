@@ -6,7 +6,7 @@ use Rattle.sheets.proofs.reader.read_at_most.Statement.{statement}
 use Rattle.sheets.proofs.reader.read_at_most.Tie as tie
 
 read-number-requires : tie.Need-read-number-requires
-read-number-requires c κs = search needs
+read-number-requires c κs = tt
 
 enum-known-value : tie.Need-enum-known-value
 enum-known-value c = search needs

@@ -56,7 +56,7 @@ sub-read-entry : tie.Need-sub-read-entry Inv-loop μ-loop
 sub-read-entry c = omega (arith, came (c .before .before) .blank .within)
 
 read-entry-requires : tie.Need-read-entry-requires Inv-loop μ-loop
-read-entry-requires c κs = search needs
+read-entry-requires c κs = tt
 
 enum-known-at : tie.Need-enum-known-at Inv-loop μ-loop
 enum-known-at c = search needs
@@ -89,7 +89,7 @@ add-t20 : tie.Need-add-t20 Inv-loop μ-loop
 add-t20 c = omega (arith, fits (c .before), came (c .before .before .before .before .before .before .before) .long, small (c .before .before .before .before .before .before .before .before .before .before .before .before .before .before .before .before .before .before .before .before .before))
 
 sub-t22 : tie.Need-sub-t22 Inv-loop μ-loop
-sub-t22 c = search needs
+sub-t22 c = omega arith
 
 loop-less : tie.Need-loop-less Inv-loop μ-loop
 loop-less c = omega (arith, c .before .before .before .before .before .before .before .before .before .before .before .before .before .before .before .read-pairs .ensures .fewer, c .before .before .before .before .before .before .before .before .before .before .before .read-long .ensures .fewer)
@@ -111,7 +111,7 @@ loop-again-2 : tie.Need-loop-again-2 Inv-loop μ-loop
 loop-again-2 c = came (c .before)
 
 same-length-2 : tie.Need-same-length-2 Inv-loop μ-loop
-same-length-2 c = search needs
+same-length-2 c = omega arith
 
 returns-2 : tie.Need-returns-2 Inv-loop μ-loop
 returns-2 c =
@@ -122,7 +122,7 @@ returns-2 c =
     ∙ told-start (args .s .now) (args .set) (args .stated .now) (args .from) (args .count)
 
 same-length-3 : tie.Need-same-length-3 Inv-loop μ-loop
-same-length-3 c = search needs
+same-length-3 c = omega arith
 
 returns-3 : tie.Need-returns-3 Inv-loop μ-loop
 returns-3 c =

@@ -8,7 +8,7 @@ use Rattle.sheets.proofs.reader.read_entry.Statement.{statement}
 use Rattle.sheets.proofs.reader.read_entry.Tie as tie
 
 read-number-requires : tie.Need-read-number-requires
-read-number-requires c κs = search needs
+read-number-requires c κs = tt
 
 enum-known-skip : tie.Need-enum-known-skip
 enum-known-skip c = search needs
@@ -31,7 +31,7 @@ returns-2 c =
     (sym (read-number .ensures) ∙ skip .given .1) (if1 .taken)
 
 read-number-requires-2 : tie.Need-read-number-requires-2
-read-number-requires-2 c κs = search needs
+read-number-requires-2 c κs = tt
 
 enum-known-marks : tie.Need-enum-known-marks
 enum-known-marks c = search needs
@@ -64,7 +64,7 @@ returns-4 c =
     (sym (read-number2 .ensures) ∙ marks .given .1) (if2 .taken)
 
 wide-requires : tie.Need-wide-requires
-wide-requires c κs = search needs
+wide-requires c κs = tt
 
 returns-5 : tie.Need-returns-5
 returns-5 c =

@@ -8,7 +8,7 @@ use Rattle.sheets.proofs.reader.read_head.Statement.{statement}
 use Rattle.sheets.proofs.reader.read_head.Tie as tie
 
 read-at-most-requires : tie.Need-read-at-most-requires
-read-at-most-requires c κs = search needs
+read-at-most-requires c κs = tt
 
 enum-known-points : tie.Need-enum-known-points
 enum-known-points c = search needs
@@ -23,7 +23,7 @@ returns c =
     (number-fault 4096 0 _ (args .s .now) _ (sym (c .before .before .read-at-most .ensures) ∙ c .enum-told .given .1), tt)
 
 read-at-most-requires-2 : tie.Need-read-at-most-requires-2
-read-at-most-requires-2 c κs = search needs
+read-at-most-requires-2 c κs = tt
 
 enum-known-set : tie.Need-enum-known-set
 enum-known-set c = search needs
@@ -44,7 +44,7 @@ returns-2 c =
     (first ∙ number-fault 511 (points .given .0 .1 .0) _ (args .s .now) _ (sym (read-at-most2 .ensures) ∙ enum-told2 .given .1), tt)
 
 read-at-most-requires-3 : tie.Need-read-at-most-requires-3
-read-at-most-requires-3 c κs = search needs
+read-at-most-requires-3 c κs = tt
 
 enum-known-marked : tie.Need-enum-known-marked
 enum-known-marked c = search needs

@@ -2,10 +2,9 @@
 use Prim.Native.Nat.{_+_, _<_}
 use native.Mathlib.Omega.{arith}
 use lib.ListN.{length}
-use borrow.Author.Needs.{needs}
 use borrow.Author.Tests.{ltb-true}
 use Rattle.sheets.specs.Steps.{Onward}
-use Rattle.sheets.proofs.Entries.{reach, onward-start, onward-long}
+use Rattle.sheets.proofs.Entries.{reach, onward-start, has-room, onward-long}
 use Rattle.sheets.proofs.reader.read_long.Statement.{statement}
 use Rattle.sheets.proofs.reader.read_long.Tie as tie
 
@@ -20,8 +19,12 @@ abbrev μ-loop : tie.MeasureT-loop
 near : (c : tie.Then1 Inv-loop μ-loop) → c .before .before .loop .at + 3 < length (c .before .before .before .before .before .before .args .s .now)
 near c = omega (arith, ltb-true (c .before .before .loop .at) (c .before .before .before .less-three .result) (c .if1 .taken), c .before .before .before .less-three .ensures)
 
+-- the point is one of those left
+room : (c : tie.Else2 Inv-loop μ-loop) → c .before .before .before .before .before .before .before .before .before .before .loop .point + c .before .before .before .before .before .before .byte .result < length (c .before .before .before .before .before .before .before .before .before .before .loop .stated)
+room c = has-room _ _ _ _ (c .if2 .left)
+
 less-three-requires : tie.Need-less-three-requires Inv-loop μ-loop
-less-three-requires c κs = search needs
+less-three-requires c κs = tt
 
 loop-holds : tie.Need-loop-holds Inv-loop μ-loop
 loop-holds c = onward-start (c .before .before .before .args .s .now) (c .before .before .before .args .set) (c .before .before .before .args .stated .now) (c .before .before .before .args .from) (c .before .before .before .pre)
@@ -30,7 +33,7 @@ shared-slice-read-byte : tie.Need-shared-slice-read-byte Inv-loop μ-loop
 shared-slice-read-byte c = omega (arith, near (c .before))
 
 byte-requires : tie.Need-byte-requires Inv-loop μ-loop
-byte-requires c κs = search needs
+byte-requires c κs = tt
 
 add-byte : tie.Need-add-byte Inv-loop μ-loop
 add-byte c = omega (arith, near (c .before .before))
@@ -39,7 +42,7 @@ shared-slice-read-byte-2 : tie.Need-shared-slice-read-byte-2 Inv-loop μ-loop
 shared-slice-read-byte-2 c = omega (arith, near (c .before .before .before))
 
 byte-requires-2 : tie.Need-byte-requires-2 Inv-loop μ-loop
-byte-requires-2 c κs = search needs
+byte-requires-2 c κs = tt
 
 add-byte-2 : tie.Need-add-byte-2 Inv-loop μ-loop
 add-byte-2 c = omega (arith, near (c .before .before .before .before))
@@ -48,43 +51,42 @@ shared-slice-read-byte-3 : tie.Need-shared-slice-read-byte-3 Inv-loop μ-loop
 shared-slice-read-byte-3 c = omega (arith, near (c .before .before .before .before .before))
 
 byte-requires-3 : tie.Need-byte-requires-3 Inv-loop μ-loop
-byte-requires-3 c κs = search needs
+byte-requires-3 c κs = tt
 
 cast-first : tie.Need-cast-first Inv-loop μ-loop
-cast-first c = search needs
+cast-first c = omega arith
 
 add-first : tie.Need-add-first Inv-loop μ-loop
-add-first c = search needs
+add-first c = omega arith
 
 joined-requires : tie.Need-joined-requires Inv-loop μ-loop
-joined-requires c κs = search needs
+joined-requires c κs = omega arith
 
 mul-stated : tie.Need-mul-stated Inv-loop μ-loop
-mul-stated c = search needs
+mul-stated c = omega arith
 
 slice-write-stated : tie.Need-slice-write-stated Inv-loop μ-loop
-slice-write-stated c = search needs
+slice-write-stated c = room (c .before)
 
 add-point : tie.Need-add-point Inv-loop μ-loop
-add-point c = search needs
+add-point c = omega arith
 
 add-at : tie.Need-add-at Inv-loop μ-loop
-add-at c = omega (arith, near (c .before .before .before .before .before .before .before .before .before .before .before))
+add-at c = omega (arith, near (c .before .before .before .before .before .before .before .before .before))
 
 sub-left : tie.Need-sub-left Inv-loop μ-loop
-sub-left c = search needs
+sub-left c = omega arith
 
 loop-less : tie.Need-loop-less Inv-loop μ-loop
-loop-less c = search needs
+loop-less c = omega arith
 
 loop-again : tie.Need-loop-again Inv-loop μ-loop
 loop-again c =
-    let args = c .before .before .before .before .before .before .before .before .before .before .before .before .before .before .before .before .before .args in
-    let loop = c .before .before .before .before .before .before .before .before .before .before .before .before .before .loop in
+    let args = c .before .before .before .before .before .before .before .before .before .before .before .before .before .before .before .args in
+    let loop = c .before .before .before .before .before .before .before .before .before .before .before .loop in
     onward-long (args .s .now) (args .set) (args .stated .now) (args .from) (loop .stated) (loop .point) (loop .at) (loop .left) (loop .inv)
-    (c .before .before .before .before .before .before .before .before .before .byte .result) (c .before .before .before .before .before .before .before .byte2 .result) (c .before .before .before .before .before .byte3 .result) (c .before .before .before .before .joined .result) (omega (arith, near (c .before .before .before .before .before .before .before .before .before .before .before))) (c .before .before .before .before .before .before .before .before .before .before .before .before .loop-test .taken)
-    (c .before .before .before .before .before .before .before .before .before .byte .ensures .0) (c .before .before .before .before .before .before .before .byte2 .ensures .0) (c .before .before .before .before .before .byte3 .ensures .0) (c .before .before .before .before .before .before .before .byte2 .ensures .1) (c .before .before .before .before .joined .ensures)
-    (c .before .before .before .if2 .left) (c .before .before .if3 .left) (c .before .if4 .left) (c .if5 .left)
+    (c .before .before .before .before .before .before .before .byte .result) (c .before .before .before .before .before .byte2 .result) (c .before .before .before .byte3 .result) (c .before .before .joined .result) (omega (arith, near (c .before .before .before .before .before .before .before .before .before))) (c .before .before .before .before .before .before .before .before .before .before .loop-test .taken)
+    (c .before .before .before .before .before .before .before .byte .ensures .0) (c .before .before .before .before .before .byte2 .ensures .0) (c .before .before .before .byte3 .ensures .0) (c .before .before .before .before .before .byte2 .ensures .1) (c .before .before .joined .ensures) (c .before .if2 .left) (c .if3 .left)
 
 same-length : tie.Need-same-length Inv-loop μ-loop
 same-length c = c .before .before .loop .inv .long
@@ -109,18 +111,6 @@ same-length-4 c = c .before .before .before .before .before .before .before .bef
 
 returns-4 : tie.Need-returns-4 Inv-loop μ-loop
 returns-4 c = c .before .before .before .before .before .before .before .before .before .before .before .loop .inv
-
-same-length-5 : tie.Need-same-length-5 Inv-loop μ-loop
-same-length-5 c = c .before .before .before .before .before .before .before .before .before .before .before .before .loop .inv .long
-
-returns-5 : tie.Need-returns-5 Inv-loop μ-loop
-returns-5 c = c .before .before .before .before .before .before .before .before .before .before .before .before .loop .inv
-
-same-length-6 : tie.Need-same-length-6 Inv-loop μ-loop
-same-length-6 c = c .before .before .before .before .before .before .before .before .before .before .before .before .before .loop .inv .long
-
-returns-6 : tie.Need-returns-6 Inv-loop μ-loop
-returns-6 c = c .before .before .before .before .before .before .before .before .before .before .before .before .before .loop .inv
 
 pub read-long-spec : {M : Type 1} → statement M
 read-long-spec =
@@ -155,8 +145,4 @@ read-long-spec =
     same-length-3
     returns-3
     same-length-4
-    returns-4
-    same-length-5
-    returns-5
-    same-length-6
-    returns-6)
+    returns-4)

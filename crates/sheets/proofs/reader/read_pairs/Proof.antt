@@ -2,10 +2,9 @@
 use Prim.Native.Nat.{_+_, _<_}
 use native.Mathlib.Omega.{arith}
 use lib.ListN.{length, length-set}
-use borrow.Author.Needs.{needs}
 use borrow.Author.Tests.{ltb-true}
 use Rattle.sheets.specs.Steps.{Onward}
-use Rattle.sheets.proofs.Entries.{reach, onward-start, onward-pair}
+use Rattle.sheets.proofs.Entries.{reach, onward-start, has-room, onward-pair}
 use Rattle.sheets.proofs.reader.read_pairs.Statement.{statement}
 use Rattle.sheets.proofs.reader.read_pairs.Tie as tie
 
@@ -20,8 +19,12 @@ abbrev μ-loop : tie.MeasureT-loop
 near : (c : tie.Then1 Inv-loop μ-loop) → c .before .before .loop .at + 3 < length (c .before .before .before .before .before .before .args .s .now)
 near c = omega (arith, ltb-true (c .before .before .loop .at) (c .before .before .before .less-three .result) (c .if1 .taken), c .before .before .before .less-three .ensures)
 
+-- the later of the two points is one of those left
+room : (c : tie.Else2 Inv-loop μ-loop) → c .before .before .before .before .before .before .before .before .before .before .before .loop .point + c .before .before .before .before .before .before .before .byte .result + 1 + c .before .before .before .byte3 .result < length (c .before .before .before .before .before .before .before .before .before .before .before .loop .stated)
+room c = has-room _ _ _ _ (c .if2 .left)
+
 less-three-requires : tie.Need-less-three-requires Inv-loop μ-loop
-less-three-requires c κs = search needs
+less-three-requires c κs = tt
 
 loop-holds : tie.Need-loop-holds Inv-loop μ-loop
 loop-holds c = onward-start (c .before .before .before .args .s .now) (c .before .before .before .args .set) (c .before .before .before .args .stated .now) (c .before .before .before .args .from) (c .before .before .before .pre)
@@ -30,7 +33,7 @@ shared-slice-read-byte : tie.Need-shared-slice-read-byte Inv-loop μ-loop
 shared-slice-read-byte c = omega (arith, near (c .before))
 
 byte-requires : tie.Need-byte-requires Inv-loop μ-loop
-byte-requires c κs = search needs
+byte-requires c κs = tt
 
 add-byte : tie.Need-add-byte Inv-loop μ-loop
 add-byte c = omega (arith, near (c .before .before))
@@ -39,7 +42,7 @@ shared-slice-read-byte-2 : tie.Need-shared-slice-read-byte-2 Inv-loop μ-loop
 shared-slice-read-byte-2 c = omega (arith, near (c .before .before .before))
 
 byte-requires-2 : tie.Need-byte-requires-2 Inv-loop μ-loop
-byte-requires-2 c κs = search needs
+byte-requires-2 c κs = tt
 
 add-byte-2 : tie.Need-add-byte-2 Inv-loop μ-loop
 add-byte-2 c = omega (arith, near (c .before .before .before .before))
@@ -48,7 +51,7 @@ shared-slice-read-byte-3 : tie.Need-shared-slice-read-byte-3 Inv-loop μ-loop
 shared-slice-read-byte-3 c = omega (arith, near (c .before .before .before .before .before))
 
 byte-requires-3 : tie.Need-byte-requires-3 Inv-loop μ-loop
-byte-requires-3 c κs = search needs
+byte-requires-3 c κs = tt
 
 add-byte-3 : tie.Need-add-byte-3 Inv-loop μ-loop
 add-byte-3 c = omega (arith, near (c .before .before .before .before .before .before))
@@ -57,55 +60,54 @@ shared-slice-read-byte-4 : tie.Need-shared-slice-read-byte-4 Inv-loop μ-loop
 shared-slice-read-byte-4 c = omega (arith, near (c .before .before .before .before .before .before .before))
 
 byte-requires-4 : tie.Need-byte-requires-4 Inv-loop μ-loop
-byte-requires-4 c κs = search needs
+byte-requires-4 c κs = tt
 
 cast-first : tie.Need-cast-first Inv-loop μ-loop
-cast-first c = search needs
+cast-first c = omega arith
 
 add-first : tie.Need-add-first Inv-loop μ-loop
-add-first c = search needs
+add-first c = omega arith
 
 add-second : tie.Need-add-second Inv-loop μ-loop
-add-second c = search needs
+add-second c = omega arith
 
 cast-second : tie.Need-cast-second Inv-loop μ-loop
-cast-second c = search needs
+cast-second c = omega arith
 
 add-second-2 : tie.Need-add-second-2 Inv-loop μ-loop
-add-second-2 c = search needs
+add-second-2 c = omega arith
 
 mul-stated : tie.Need-mul-stated Inv-loop μ-loop
-mul-stated c = search needs
+mul-stated c = omega arith
 
 slice-write-stated : tie.Need-slice-write-stated Inv-loop μ-loop
-slice-write-stated c = search needs
+slice-write-stated c = omega (arith, room (c .before))
 
 mul-stated-2 : tie.Need-mul-stated-2 Inv-loop μ-loop
-mul-stated-2 c = search needs
+mul-stated-2 c = omega arith
 
 slice-write-stated-2 : tie.Need-slice-write-stated-2 Inv-loop μ-loop
-slice-write-stated-2 c = simp length-set (omega arith)
+slice-write-stated-2 c = simp length-set (room (c .before))
 
 add-point : tie.Need-add-point Inv-loop μ-loop
-add-point c = search needs
+add-point c = omega arith
 
 add-at : tie.Need-add-at Inv-loop μ-loop
-add-at c = omega (arith, near (c .before .before .before .before .before .before .before .before .before .before .before .before))
+add-at c = omega (arith, near (c .before .before .before .before .before .before .before .before .before .before))
 
 sub-left : tie.Need-sub-left Inv-loop μ-loop
-sub-left c = search needs
+sub-left c = omega arith
 
 loop-less : tie.Need-loop-less Inv-loop μ-loop
-loop-less c = search needs
+loop-less c = omega arith
 
 loop-again : tie.Need-loop-again Inv-loop μ-loop
 loop-again c =
-    let args = c .before .before .before .before .before .before .before .before .before .before .before .before .before .before .before .before .before .before .args in
-    let loop = c .before .before .before .before .before .before .before .before .before .before .before .before .before .before .loop in
+    let args = c .before .before .before .before .before .before .before .before .before .before .before .before .before .before .before .before .args in
+    let loop = c .before .before .before .before .before .before .before .before .before .before .before .before .loop in
     onward-pair (args .s .now) (args .set) (args .stated .now) (args .from) (loop .stated) (loop .point) (loop .at) (loop .left) (loop .inv)
-    (c .before .before .before .before .before .before .before .before .before .before .byte .result) (c .before .before .before .before .before .before .before .before .byte2 .result) (c .before .before .before .before .before .before .byte3 .result) (c .before .before .before .before .byte4 .result) (near (c .before .before .before .before .before .before .before .before .before .before .before .before)) (c .before .before .before .before .before .before .before .before .before .before .before .before .before .loop-test .taken)
-    (c .before .before .before .before .before .before .before .before .before .before .byte .ensures .0) (c .before .before .before .before .before .before .before .before .byte2 .ensures .0) (c .before .before .before .before .before .before .byte3 .ensures .0) (c .before .before .before .before .byte4 .ensures .0)
-    (c .before .before .before .if2 .left) (c .before .before .if3 .left) (c .before .if4 .left) (c .if5 .left)
+    (c .before .before .before .before .before .before .before .before .byte .result) (c .before .before .before .before .before .before .byte2 .result) (c .before .before .before .before .byte3 .result) (c .before .before .byte4 .result) (near (c .before .before .before .before .before .before .before .before .before .before)) (c .before .before .before .before .before .before .before .before .before .before .before .loop-test .taken)
+    (c .before .before .before .before .before .before .before .before .byte .ensures .0) (c .before .before .before .before .before .before .byte2 .ensures .0) (c .before .before .before .before .byte3 .ensures .0) (c .before .before .byte4 .ensures .0) (c .before .if2 .left) (c .if3 .left)
 
 same-length : tie.Need-same-length Inv-loop μ-loop
 same-length c = c .before .before .loop .inv .long
@@ -130,18 +132,6 @@ same-length-4 c = c .before .before .before .before .before .before .before .bef
 
 returns-4 : tie.Need-returns-4 Inv-loop μ-loop
 returns-4 c = c .before .before .before .before .before .before .before .before .before .before .before .before .loop .inv
-
-same-length-5 : tie.Need-same-length-5 Inv-loop μ-loop
-same-length-5 c = c .before .before .before .before .before .before .before .before .before .before .before .before .before .loop .inv .long
-
-returns-5 : tie.Need-returns-5 Inv-loop μ-loop
-returns-5 c = c .before .before .before .before .before .before .before .before .before .before .before .before .before .loop .inv
-
-same-length-6 : tie.Need-same-length-6 Inv-loop μ-loop
-same-length-6 c = c .before .before .before .before .before .before .before .before .before .before .before .before .before .before .loop .inv .long
-
-returns-6 : tie.Need-returns-6 Inv-loop μ-loop
-returns-6 c = c .before .before .before .before .before .before .before .before .before .before .before .before .before .before .loop .inv
 
 pub read-pairs-spec : {M : Type 1} → statement M
 read-pairs-spec =
@@ -183,8 +173,4 @@ read-pairs-spec =
     same-length-3
     returns-3
     same-length-4
-    returns-4
-    same-length-5
-    returns-5
-    same-length-6
-    returns-6)
+    returns-4)

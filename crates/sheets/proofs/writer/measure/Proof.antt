@@ -3,7 +3,6 @@ use Prim.Native.Nat.{_-_}
 use native.Mathlib.Omega.{arith}
 use lib.ListN.{length}
 use Rattle.sheets.proofs.Writing.{Measures, measures-start, measures-skip, measures-put, measures-end}
-use borrow.Author.Needs.{needs}
 use Rattle.sheets.proofs.writer.measure.Statement.{statement}
 use Rattle.sheets.proofs.writer.measure.Tie as tie
 
@@ -17,19 +16,19 @@ loop-holds : tie.Need-loop-holds Inv-loop μ-loop
 loop-holds c = measures-start (c .before .args .marks .now)
 
 mul-m : tie.Need-mul-m Inv-loop μ-loop
-mul-m c = search needs
+mul-m c = omega arith
 
 shared-slice-read-m : tie.Need-shared-slice-read-m Inv-loop μ-loop
-shared-slice-read-m c = search needs
+shared-slice-read-m c = omega arith
 
 add-skip : tie.Need-add-skip Inv-loop μ-loop
-add-skip c = search needs
+add-skip c = omega arith
 
 add-i : tie.Need-add-i Inv-loop μ-loop
-add-i c = search needs
+add-i c = omega arith
 
 loop-less : tie.Need-loop-less Inv-loop μ-loop
-loop-less c = search needs
+loop-less c = omega arith
 
 loop-again : tie.Need-loop-again Inv-loop μ-loop
 loop-again c =
@@ -39,7 +38,7 @@ loop-again c =
     measures-skip (args .marks .now) (loop .i) (loop .skip) (loop .marked) (loop .len) (loop .inv) (loop-test .taken) (c .if1 .taken)
 
 size-requires : tie.Need-size-requires Inv-loop μ-loop
-size-requires c κs = search needs
+size-requires c κs = tt
 
 add-len : tie.Need-add-len Inv-loop μ-loop
 add-len c =
@@ -47,7 +46,7 @@ add-len c =
     omega (arith, loop .inv .short, loop .inv .points, c .size .ensures .1)
 
 size-requires-2 : tie.Need-size-requires-2 Inv-loop μ-loop
-size-requires-2 c κs = search needs
+size-requires-2 c κs = tt
 
 add-len-2 : tie.Need-add-len-2 Inv-loop μ-loop
 add-len-2 c =
@@ -55,13 +54,13 @@ add-len-2 c =
     omega (arith, loop .inv .short, loop .inv .points, c .before .size .ensures .1, c .size2 .ensures .1)
 
 add-marked : tie.Need-add-marked Inv-loop μ-loop
-add-marked c = search needs
+add-marked c = omega arith
 
 add-i-2 : tie.Need-add-i-2 Inv-loop μ-loop
-add-i-2 c = search needs
+add-i-2 c = omega arith
 
 loop-less-2 : tie.Need-loop-less-2 Inv-loop μ-loop
-loop-less-2 c = search needs
+loop-less-2 c = omega arith
 
 loop-again-2 : tie.Need-loop-again-2 Inv-loop μ-loop
 loop-again-2 c =

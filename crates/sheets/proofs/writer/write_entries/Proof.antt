@@ -5,7 +5,6 @@ use lib.ListN.{length}
 use Rattle.laws.proofs.Filling.{filling-length}
 use Rattle.sheets.specs.Sheet.{entriesOf}
 use Rattle.sheets.proofs.Writing.{Writes, writes-start, writes-skip, writes-room, writes-on, writes-count, writes-end}
-use borrow.Author.Needs.{needs}
 use Rattle.sheets.proofs.writer.write_entries.Statement.{statement}
 use Rattle.sheets.proofs.writer.write_entries.Tie as tie
 
@@ -21,19 +20,19 @@ loop-holds c =
     writes-start (args .marks .now) (args .out .now) (c .before .before .pre .1)
 
 mul-m : tie.Need-mul-m Inv-loop μ-loop
-mul-m c = search needs
+mul-m c = omega arith
 
 shared-slice-read-m : tie.Need-shared-slice-read-m Inv-loop μ-loop
-shared-slice-read-m c = search needs
+shared-slice-read-m c = omega arith
 
 add-skip : tie.Need-add-skip Inv-loop μ-loop
-add-skip c = search needs
+add-skip c = omega arith
 
 add-i : tie.Need-add-i Inv-loop μ-loop
-add-i c = search needs
+add-i c = omega arith
 
 loop-less : tie.Need-loop-less Inv-loop μ-loop
-loop-less c = search needs
+loop-less c = omega arith
 
 loop-again : tie.Need-loop-again Inv-loop μ-loop
 loop-again c =
@@ -67,7 +66,7 @@ part-write-entry-start c =
     )
 
 part-write-entry-end : tie.Need-part-write-entry-end Inv-loop μ-loop
-part-write-entry-end c = search needs
+part-write-entry-end c = omega arith
 
 write-entry-requires : tie.Need-write-entry-requires Inv-loop μ-loop
 write-entry-requires c κs =
@@ -93,10 +92,10 @@ add-at c =
     )
 
 add-i-2 : tie.Need-add-i-2 Inv-loop μ-loop
-add-i-2 c = search needs
+add-i-2 c = omega arith
 
 loop-less-2 : tie.Need-loop-less-2 Inv-loop μ-loop
-loop-less-2 c = search needs
+loop-less-2 c = omega arith
 
 loop-again-2 : tie.Need-loop-again-2 Inv-loop μ-loop
 loop-again-2 c =

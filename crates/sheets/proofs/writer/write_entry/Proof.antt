@@ -3,7 +3,6 @@ use native.Mathlib.Omega.{arith}
 use lib.ListN.{length-append}
 use Rattle.laws.proofs.Lending.{second-start, second-room, second-fills}
 use Rattle.groups.specs.Groups.{groups}
-use borrow.Author.Needs.{needs}
 use Rattle.sheets.proofs.writer.write_entry.Statement.{statement}
 use Rattle.sheets.proofs.writer.write_entry.Tie as tie
 
@@ -29,7 +28,7 @@ part-put-start c =
     (put .ensures .0)
 
 part-put-end : tie.Need-part-put-end
-part-put-end c = search needs
+part-put-end c = omega arith
 
 put-requires-2 : tie.Need-put-requires-2
 put-requires-2 c κs =
@@ -53,7 +52,7 @@ add-result c =
     )
 
 same-length : tie.Need-same-length
-same-length c = search needs
+same-length c = omega arith
 
 returns : tie.Need-returns
 returns c =

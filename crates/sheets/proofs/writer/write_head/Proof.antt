@@ -4,7 +4,6 @@ use mathlib.Core.List.{_++_}
 use lib.ListN.{length-append}
 use Rattle.laws.proofs.Lending.{second-start, second-room, second-fills}
 use Rattle.groups.specs.Groups.{groups}
-use borrow.Author.Needs.{needs}
 use Rattle.sheets.proofs.writer.write_head.Statement.{statement}
 use Rattle.sheets.proofs.writer.write_head.Tie as tie
 
@@ -30,7 +29,7 @@ part-write-entry-start c =
     (put .ensures .1) (put .ensures .0)
 
 part-write-entry-end : tie.Need-part-write-entry-end
-part-write-entry-end c = search needs
+part-write-entry-end c = omega arith
 
 write-entry-requires : tie.Need-write-entry-requires
 write-entry-requires c κs =
@@ -55,7 +54,7 @@ add-result c =
     )
 
 same-length : tie.Need-same-length
-same-length c = search needs
+same-length c = omega arith
 
 returns : tie.Need-returns
 returns c =

@@ -9,33 +9,32 @@ use Rattle.laws.specs.Front.{atFront}
 use Rattle.laws.proofs.Lending.{second-start, second-room, second-fills}
 use Rattle.sheets.specs.Sheet.{entriesOf, sheetOf}
 use Rattle.sheets.proofs.Writing.{headOf, sheet-parts, sheet-length, parts-fit, head-fits}
-use borrow.Author.Needs.{needs}
 use Rattle.sheets.proofs.writer.write_marks.Statement.{statement}
 use Rattle.sheets.proofs.writer.write_marks.Tie as tie
 
 cast-points : tie.Need-cast-points
-cast-points c = search needs
+cast-points c = omega arith
 
 measure-requires : tie.Need-measure-requires
-measure-requires c κs = search needs
+measure-requires c κs = omega arith
 
 size-requires : tie.Need-size-requires
-size-requires c κs = search needs
+size-requires c κs = tt
 
 size-requires-2 : tie.Need-size-requires-2
-size-requires-2 c κs = search needs
+size-requires-2 c κs = tt
 
 add-head : tie.Need-add-head
-add-head c = search needs
+add-head c = omega arith
 
 size-requires-3 : tie.Need-size-requires-3
-size-requires-3 c κs = search needs
+size-requires-3 c κs = tt
 
 add-head-2 : tie.Need-add-head-2
-add-head-2 c = search needs
+add-head-2 c = omega arith
 
 add-if1 : tie.Need-add-if1
-add-if1 c = search needs
+add-if1 c = omega arith
 
 returns : tie.Need-returns
 returns c =
@@ -98,7 +97,7 @@ part-write-entries-start c =
     (write-head .ensures .1) (write-head .ensures .0)
 
 part-write-entries-end : tie.Need-part-write-entries-end
-part-write-entries-end c = search needs
+part-write-entries-end c = omega arith
 
 write-entries-requires : tie.Need-write-entries-requires
 write-entries-requires c κs =
@@ -170,7 +169,7 @@ add-t11 c =
     )
 
 same-length : tie.Need-same-length
-same-length c = search needs
+same-length c = omega arith
 
 returns-2 : tie.Need-returns-2
 returns-2 c =
