@@ -1,6 +1,7 @@
--- What a lent slice holds after its front was written. Definitions only.
+-- What a lent slice holds after its front was written, and what the call answers. Definitions only.
 use mathlib.Core.Bool.{cond}
 use mathlib.Core.List.{List, _++_}
+use Prim.Native.Nat.{ℕ}
 use lib.ListN.{length, drop}
 use lib.Dec.{leb}
 
@@ -12,3 +13,7 @@ module _ {A : Type 0} where
   -- the same where the slice is long enough; a shorter one is as it came (01, refusal 6)
   abbrev pub atFrontIfRoom : List A → List A → List A
   atFrontIfRoom xs old = cond (leb (length xs) (length old)) (atFront xs old) old
+
+  -- the answer of such a call, where nothing else is refused: 01's number, and how many entries were written; 6 where the slice is shorter
+  abbrev pub roomFor : List A → ℕ → ℕ × ℕ
+  roomFor xs room = cond (leb (length xs) room) (0, length xs) (6, 0)

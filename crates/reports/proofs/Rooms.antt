@@ -7,8 +7,7 @@ use native.Mathlib.Omega.{arith}
 use borrow.Author.Tests.{le-leb, lt-leb, leb-true}
 use lib.Dec.{leb}
 use lib.ListN.{length}
-use Rattle.laws.specs.Front.{atFront, atFrontIfRoom}
-use Rattle.reports.specs.Report.{roomFor}
+use Rattle.laws.specs.Front.{atFront, atFrontIfRoom, roomFor}
 
 -- the answer, and the room afterwards
 abbrev pub Told : List ℕ → List ℕ → ℕ × ℕ → List ℕ → Type 0

@@ -3,9 +3,8 @@
 use mathlib.Core.Bool.{not, cond}
 use mathlib.Core.List.{List, _∷_}
 use Prim.Native.Nat.{ℕ}
-use lib.Dec.{eqb, leb}
+use lib.Dec.{eqb}
 use lib.Ieee.{Float}
-use lib.ListN.{length}
 use Rattle.laws.specs.Refusals.{firstOf}
 use Rattle.floats.specs.Finite.{allFinite}
 use Rattle.charts.specs.declared.Chart.{Chart}
@@ -47,7 +46,3 @@ textOf s = textOn (flowOf s)
 abbrev pub reported : Reported → ℕ × ℕ
 reported (Text n) = (0, n)
 reported TooShort = (6, 0)
-
--- 6: the room is shorter than the text
-abbrev pub roomFor : List ℕ → ℕ → ℕ × ℕ
-roomFor text room = cond (leb (length text) room) (0, length text) (6, 0)

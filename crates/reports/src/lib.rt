@@ -10,11 +10,11 @@ ghost use mathlib.Core.Path.{_≡_};
 ghost use mathlib.Core.Bool.{true};
 ghost use Prim.Native.Nat.{_≤_};
 ghost use lib.ListN.{length};
-ghost use Rattle.laws.specs.Front.{atFrontIfRoom};
+ghost use Rattle.laws.specs.Front.{atFrontIfRoom, roomFor};
 ghost use Rattle.rules.specs.Finite.{finiteLimits};
 ghost use Rattle.charts.specs.Series.{pointsIn};
 ghost use Rattle.reports.specs.Text.{bothMarks, chartText, rLine};
-ghost use Rattle.reports.specs.Report.{firstIndex, chartReport, textOf, reported, roomFor};
+ghost use Rattle.reports.specs.Report.{firstIndex, chartReport, textOf, reported};
 ghost use Rattle.reports.specs.Steps.{size, Legal};
 ghost use Rattle.reports.specs.TextSteps.{Lengths};
 

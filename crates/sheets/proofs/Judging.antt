@@ -11,7 +11,7 @@ use lib.ListN.{length, take, drop}
 use lib.Seq.{take-at}
 use borrow.Author.Tests.{lt-ltb, le-ltb, leb-true, leb-false, eq-eqb, ne-eqb, eqb-true}
 use Rattle.laws.specs.Refusals.{firstOf}
-use Rattle.laws.specs.Front.{atFrontIfRoom}
+use Rattle.laws.specs.Front.{atFrontIfRoom, roomFor}
 use Rattle.laws.proofs.Refusals.{passed, refused}
 use Rattle.rules.specs.declared.Limits.{Limits}
 use Rattle.floats.specs.Finite.{allFinite}
@@ -23,7 +23,7 @@ use Rattle.sheets.specs.declared.reader.Entries.{Entries}
 use Rattle.sheets.specs.declared.reader.Entries.the-variants.{Whole, Broken}
 use Rattle.sheets.specs.Said.{Said, said}
 use Rattle.sheets.specs.Answers.{refusal, firstWrong, judged, checkOf, seriesSheet, writeOf, roomAfter}
-use Rattle.sheets.specs.Steps.{tells, roomFor}
+use Rattle.sheets.specs.Steps.{tells}
 
 -- ---- 9, then 10, then 11
 

@@ -84,7 +84,3 @@ pub record Measured (ms : List ℕ) (k n : ℕ) : Type 0 where
   pub bytes : n ≡ length (entriesOf 0 ms)
   pub few : k ≤ length ms
   pub short : n ≤ 6 * length ms
-
--- what writing bytes answers where nothing else is refused: 01's number and their length
-abbrev pub roomFor : List ℕ → ℕ → ℕ × ℕ
-roomFor bytes room = cond (leb (length bytes) room) (0, length bytes) (6, 0)

@@ -5,11 +5,11 @@ ghost use mathlib.Core.Path.{_≡_};
 ghost use mathlib.Core.List.{_++_};
 ghost use Prim.Native.Nat.{_≤_};
 ghost use lib.ListN.{length};
-ghost use Rattle.laws.specs.Front.{atFront, atFrontIfRoom};
+ghost use Rattle.laws.specs.Front.{atFront, atFrontIfRoom, roomFor};
 ghost use Rattle.groups.specs.Groups.{groups};
 ghost use Rattle.sheets.specs.Sheet.{entriesOf, sheetOf};
 ghost use Rattle.sheets.specs.Answers.{written};
-ghost use Rattle.sheets.specs.Steps.{Measured, roomFor};
+ghost use Rattle.sheets.specs.Steps.{Measured};
 
 // How many groups a number has. None in a sheet has more than sixteen bits.
 fn size(x: u16) -> usize

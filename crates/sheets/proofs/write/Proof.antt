@@ -8,10 +8,9 @@ use Rattle.rules.specs.declared.Marked.the-variants.{Done, TooMany, SetTooLarge
 use Rattle.rules.specs.Marking.{marksOf}
 use Rattle.rules.proofs.Meaning.{length-marks}
 use Rattle.rules.proofs.Accepted.{was-accepted}
-use Rattle.laws.specs.Front.{atFrontIfRoom}
+use Rattle.laws.specs.Front.{atFrontIfRoom, roomFor}
 use Rattle.sheets.specs.Sheet.{sheetOf}
 use Rattle.sheets.specs.Answers.{seriesSheet}
-use Rattle.sheets.specs.Steps.{roomFor}
 use Rattle.sheets.proofs.Judging.{refusal-is, never-short, marks-front, write-done, room-done, write-refused, room-refused}
 use borrow.Author.Needs.{needs}
 use Rattle.sheets.proofs.write.Statement.{statement}
