@@ -1,4 +1,5 @@
--- Entry after entry: what the reader's loop has placed, what it has yet to read, and one entry more. Assumes nothing.
+-- Entry after entry: how far the reader has come, one entry more however it is read, and the entries of two and of three bytes.
+-- Assumes nothing.
 use Prim.Native.Nat.{ℕ, suc, _+_, _-_, _*_, _%_, _≤_, _<_}
 use native.Mathlib.Numerals.{add-one}
 use native.Mathlib.Omega.{arith}
@@ -28,14 +29,14 @@ module _ (s : List ℕ) (set left at k : ℕ) (e : Entry) (f : FirstEntry s set 
       let fewer : k ≡ suc (k - 1) = omega arith in
       ap (λ (n : ℕ). entries s set n left at) fewer ∙ f .goes (k - 1)
 
-  pub entry-broken : (p : ℕ) → e ≡ Broken p → 0 < k → entries s set k left at ≡ fault p
+  entry-broken : (p : ℕ) → e ≡ Broken p → 0 < k → entries s set k left at ≡ fault p
   entry-broken p is h = turned h ∙ ap (afterEntry s set left (k - 1)) is
 
   module _ (skip m next : ℕ) (is : e ≡ Whole skip m next) where
     pub entry-fits : skip < left
     entry-fits = subst (Fits left) is (f .fits)
 
-    pub entry-whole : 0 < k → entries s set k left at ≡ placed skip m (entries s set (k - 1) (left - suc skip) next)
+    entry-whole : 0 < k → entries s set k left at ≡ placed skip m (entries s set (k - 1) (left - suc skip) next)
     entry-whole h = turned h ∙ ap (afterEntry s set left (k - 1)) is
 
 module _ (s : List ℕ) (set left at k : ℕ) (none : k ≤ 0) where

@@ -1,4 +1,4 @@
-// Reading a sheet from bytes of any origin, number by number.
+// Reading a sheet from bytes of any origin: the numbers at its head, and its entries into the marks of every point.
 use groups::Reading;
 ghost use mathlib.Core.Path.{_≡_};
 ghost use Prim.Native.Nat.{_+_, _-_, _*_, _%_, _<_};
