@@ -18,13 +18,21 @@ pub fn of_bits(pattern: u64) -> f64
 }
 
 /// Whether a value is neither a NaN nor an infinity.
+///
+/// Refuses nothing.
+///
+/// `is_finite(1.0)` is yes, `is_finite(1.0 / 0.0)` is no.
 pub fn is_finite(v: f64) -> bool
     ensures { λ r. ⌜ r ≡ finite v ⌝ }
 {
     (v < 1.0 / 0.0) & (-1.0 / 0.0 < v)
 }
 
-/// Whether all values are finite.
+/// Whether all values are finite; of no values, yes.
+///
+/// Refuses nothing.
+///
+/// `all_finite(&[1.0, 0.0 / 0.0])` is no.
 pub fn all_finite(values: &[f64]) -> bool
     ensures { λ r. ⌜ r ≡ allFinite (now (values .entry)) ⌝ }
 {

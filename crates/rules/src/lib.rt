@@ -56,6 +56,10 @@ impl Marked {
 }
 
 /// Whether all three limits are finite.
+///
+/// Refuses nothing.
+///
+/// Of `Limits { ucl: 28.0, cl: 25.0, lcl: 22.0 }` it is yes.
 pub fn finite_limits(l: Limits) -> bool
     ensures { λ r. ⌜ r ≡ finiteLimits l ⌝ }
 {
