@@ -1,3 +1,4 @@
--- The laws of finite values and of NaNs.
+-- The laws of finite values, of NaNs, and of operations that give none.
 mod AllFinite
 pub mod Nan
+pub mod Operations

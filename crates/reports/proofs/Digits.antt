@@ -65,7 +65,7 @@ decimal-some = by-digits 10 (omega arith) (λ (x : ℕ). 0 < length (decimal x))
     (λ x h ih. omega (arith, length-more x h))
 
 -- a number below 10 ^ (k + 1) has at most k + 1 digits
-below-power : (k x : ℕ) → x < 10 ^ suc k → length (decimal x) ≤ suc k
+pub below-power : (k x : ℕ) → x < 10 ^ suc k → length (decimal x) ≤ suc k
 below-power zero x h = omega (arith, length-one x (omega arith))
 below-power (suc k) x h = by (ltb x 10) refl (below-power k (x / 10))
   where

@@ -12,3 +12,4 @@ mod Examples
 pub mod Answers
 pub mod Rooms
 mod Evaluations
+pub mod Longest

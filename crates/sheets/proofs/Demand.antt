@@ -136,6 +136,16 @@ module _ (κs : Lfts 2) (a : Dens κs check-kinds.ps) (x : resT check-kinds.r κ
       let both = accepted-exactly (a .1 .0) (a .1 .1 .0 .mask) (a .0 .now) few valid sound finite (a .1 .1 .1 .0 .now) is-bytes in
       ((λ e. both .0 (check-accepts .0 e)), (λ r. check-accepts .1 (both .1 r)))
 
+  -- (b): of all bytes `check` accepts the one sheet, and no others
+  pub check-accepts-one : length (a .0 .now) ≤ 4096 → a .1 .1 .0 .mask ≤ 511
+      → finiteLimits (a .1 .0) ≡ true → allFinite (a .0 .now) ≡ true → Bytes (a .1 .1 .1 .0 .now)
+      → (x ≡ Accepted) ↔ (a .1 .1 .1 .0 .now ≡ seriesSheet (a .1 .0) (a .1 .1 .0 .mask) (a .0 .now))
+  check-accepts-one few valid sound finite is-bytes =
+      let one = one-accepted (a .1 .0) (a .1 .1 .0 .mask) (a .0 .now) few valid sound finite in (
+        (λ e. one .2 (a .1 .1 .1 .0 .now) is-bytes (check-accepts .0 e)),
+        (λ e. check-accepts .1 (ap (checkOf (a .1 .0) (a .1 .1 .0 .mask) (a .0 .now)) e ∙ one .1)),
+      )
+
 -- (c): `write` leaves that sheet in every room that holds it
 pub write-gives-it : (κs : Lfts 2) (a : Dens κs write-kinds.ps) (x : resT write-kinds.r κs .Denot)
     (s : AtExit (endedOf 2 write-kinds.ps write-kinds.r) κs)

@@ -4,6 +4,7 @@ use native.Mathlib.Omega.{arith}
 use native.Mathlib.Nat.{add-zero}
 use mathlib.Core.Path.{_≡_, refl, sym, ap, ap₂, _∙_, subst}
 use mathlib.Core.Bool.{Bool, true, false, cond}
+use mathlib.Core.Logic.{_↔_}
 use mathlib.Core.List.{List, [], _∷_, _++_}
 use lib.Bits.{bitAnd, and-le-r, and-zero-l}
 use lib.Dec.{ltb, leb, eqb}
@@ -243,3 +244,12 @@ said-sound most top s at set ms bytes e =
           ∙ ap (λ (k : ℕ). groups (a .value) ++ (groups (b .value) ++ (groups k ++ entriesOf 0 ms))) (sym (r .count))
           ∙ ap₂ (λ (n t : ℕ). groups n ++ (groups t ++ (groups (marked ms) ++ entriesOf 0 ms))) (sym points) (sym same);
     }
+
+-- What is well formed, said without a reader: bytes say a set and marks exactly if they are the sheet of these, the set and the number of
+-- points are in bounds, and every point's marks are inside the set.
+pub well-formed : (most top : ℕ) → most < 2 ^ 64 → top < 2 ^ 64 → (s : List ℕ) → Bytes s → (set : ℕ) (ms : List ℕ)
+    → (saidFrom most top s 0 ≡ sheet set ms) ↔ IsSheet most top s 0 set ms
+well-formed most top a b s bytes set ms = (
+  (λ e. said-sound most top s 0 set ms bytes e),
+  (λ w. said-written most top set ms s 0 (w .low) b (w .few) a (w .inside) (w .string)),
+)

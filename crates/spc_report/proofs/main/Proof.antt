@@ -1,19 +1,21 @@
--- `spc_report::main` is safe: a report that was written lies within the room. Assumes nothing.
-use mathlib.Core.Path.{sym, ap, _∙_}
-use Prim.Native.Nat.{_-_, _≤_}
+-- `spc_report::main` is safe: what was read lies within its room, and a report within its own. Assumes nothing.
+use mathlib.Core.Path.{subst}
+use Prim.Native.Nat.{_≤_}
 use native.Mathlib.Omega.{arith}
-use lib.ListN.{length, take}
-use Rattle.reports.specs.Report.{reported, textOf}
-use Rattle.reports.proofs.Rooms.{within}
+use lib.ListN.{length}
+use Rattle.spc_report.specs.Input.{AtMost}
 use borrow.Author.Needs.{needs}
 use Rattle.spc_report.proofs.main.Statement.{statement}
 use Rattle.spc_report.proofs.main.Tie as tie
 
-slice-aggregate-read-full : tie.Need-slice-aggregate-read-full
-slice-aggregate-read-full c = search needs
+slice-aggregate-read-input : tie.Need-slice-aggregate-read-input
+slice-aggregate-read-input c = search needs
 
-read-full-requires : tie.Need-read-full-requires
-read-full-requires c κs = search needs
+read-input-requires : tie.Need-read-input-requires
+read-input-requires c κs = search needs
+
+enum-known-n : tie.Need-enum-known-n
+enum-known-n c = search needs
 
 room-requires : tie.Need-room-requires
 room-requires c κs = search needs
@@ -25,16 +27,15 @@ part-report-start : tie.Need-part-report-start
 part-report-start c = search needs
 
 part-report-end : tie.Need-part-report-end
-part-report-end c = search needs
+part-report-end c =
+    let few : c .before .before .before .n .given .0 .0 ≤ length (c .before .before .before .before .before .before .read-input .last .0) = subst (AtMost (length (c .before .before .before .before .before .before .read-input .last .0))) (c .before .before .before .n .given .1) (c .before .before .before .before .before .before .read-input .ensures) in
+    omega (arith, c .before .before .before .before .before .before .read-input .kept)
 
 slice-aggregate-report : tie.Need-slice-aggregate-report
 slice-aggregate-report c = search needs
 
 report-requires : tie.Need-report-requires
 report-requires c κs = search needs
-
-enum-known-len : tie.Need-enum-known-len
-enum-known-len c = search needs
 
 sub-write-all : tie.Need-sub-write-all
 sub-write-all c = search needs
@@ -43,17 +44,25 @@ part-write-all-start : tie.Need-part-write-all-start
 part-write-all-start c = search needs
 
 part-write-all-end : tie.Need-part-write-all-end
-part-write-all-end c =
-    let report = c .before .before .before .before .before .report in
-    let len = c .before .before .len .given in
-    let small : len .0 .0 ≤ length (c .before .before .before .before .before .before .before .before .before .room .result) = within (textOf (take (c .before .before .before .before .before .before .before .before .before .before .before .read-full .result - 0) (c .before .before .before .before .before .before .before .before .before .before .before .read-full .last .1 .0))) _ _ (sym (ap reported (len .1)) ∙ report .ensures .0) in
-    omega (arith, report .kept)
+part-write-all-end c = search needs
 
 write-all-requires : tie.Need-write-all-requires
 write-all-requires c κs = search needs
 
+slice-aggregate-write-all : tie.Need-slice-aggregate-write-all
+slice-aggregate-write-all c = search needs
+
+write-all-requires-2 : tie.Need-write-all-requires-2
+write-all-requires-2 c κs = search needs
+
 enum-told : tie.Need-enum-told
 enum-told c = search needs
+
+slice-aggregate-write-all-2 : tie.Need-slice-aggregate-write-all-2
+slice-aggregate-write-all-2 c = search needs
+
+write-all-requires-3 : tie.Need-write-all-requires-3
+write-all-requires-3 c κs = search needs
 
 returns : tie.Need-returns
 returns c = search needs
@@ -61,23 +70,31 @@ returns c = search needs
 returns-2 : tie.Need-returns-2
 returns-2 c = search needs
 
+returns-3 : tie.Need-returns-3
+returns-3 c = search needs
+
 pub main-spec : {M : Type 1} → statement M
 main-spec =
     tie.close
     (tie.spec
-    slice-aggregate-read-full
-    read-full-requires
+    slice-aggregate-read-input
+    read-input-requires
+    enum-known-n
     room-requires
     sub-report
     part-report-start
     part-report-end
     slice-aggregate-report
     report-requires
-    enum-known-len
     sub-write-all
     part-write-all-start
     part-write-all-end
     write-all-requires
+    slice-aggregate-write-all
+    write-all-requires-2
     enum-told
+    slice-aggregate-write-all-2
+    write-all-requires-3
     returns
-    returns-2)
+    returns-2
+    returns-3)

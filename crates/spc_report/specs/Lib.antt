@@ -1,0 +1,2 @@
+-- What the parts of the program find.
+pub mod Input
