@@ -11,7 +11,8 @@
  *
  * `set` has the tests that are asked for in the same bits: 1 is shewhart, 255 nelson, 305 western_electric.
  *
- * Answers. Bits 0 to 7 of each answer are its number:
+ * Answers. dramulenz_root answers a double, +0.0 where it refuses. The others answer a word whose bits 0 to 7 are a
+ * number:
  *
  *     0 done                                       6 the lent room is shorter than needed
  *     2 values_len is not a multiple of eight      9 the bytes are no sheet
@@ -82,7 +83,7 @@ uint64_t dramulenz_write(const uint8_t *values, size_t values_len, double ucl, d
 /*
  * The square root of x, rounded to the nearest double; the root of +0.0 and of -0.0 is the same zero.
  *
- * Refuses a NaN, an infinity and x below zero (number 3), and gives +0.0 then.
+ * Refuses a NaN, an infinity and x below zero, and gives +0.0 then. Of all that it takes, +0.0 alone has that root.
  */
 double dramulenz_root(double x);
 
