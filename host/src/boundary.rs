@@ -83,11 +83,33 @@ fn read(answer: u64) -> Result<u64, Refusal> {
         6 => Refusal::TooShort,
         9 => Refusal::Form { at: (answer >> 8) as usize },
         10 => Refusal::Differs,
-        // 11: it is proved that there is no other.
-        _ => Refusal::Wrong {
+        11 => Refusal::Wrong {
             at: (answer >> 8) as u16 as usize,
             right: (answer >> 24) as u16,
             stated: (answer >> 40) as u16,
         },
+        // That there is none is proved, of the library that this is for.
+        _ => Refusal::Unknown { answer },
     })
+}
+
+#[cfg(test)]
+mod tests {
+    use super::*;
+
+    #[test]
+    fn each_number_is_read_as_itself() {
+        for number in 0..=255 {
+            let answer = 0x0012_3456_789a_bc00 | u64::from(number);
+            let read = read(answer);
+            assert_eq!(read.map_or_else(Refusal::number, |_| 0), number);
+            match number {
+                0 => assert_eq!(read, Ok(answer >> 8)),
+                9 => assert_eq!(read, Err(Refusal::Form { at: 0x1234_5678_9abc })),
+                11 => assert_eq!(read, Err(Refusal::Wrong { at: 0x9abc, right: 0x5678, stated: 0x1234 })),
+                2..=6 | 10 => {}
+                _ => assert_eq!(read, Err(Refusal::Unknown { answer })),
+            }
+        }
+    }
 }

@@ -40,6 +40,8 @@
 //! | those of [`bytes`] | `Length`, then the same |
 //! | [`root`] | `NotFinite` |
 //!
+//! [`Refusal::Unknown`] stands in no row: it says that another library is linked.
+//!
 //! # The floating-point mode
 //!
 //! The library is proved for the default mode of floating-point arithmetic: round to nearest, subnormals
