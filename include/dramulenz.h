@@ -26,13 +26,13 @@
  * writes to shares no byte with the other one; two arrays that are only read may. No length is 2^63 or more. Where the
  * length is 0 nothing is read or written through the pointer, and it may be NULL or anything else; NULL with any other
  * length is not allowed. The floating-point mode of the thread is the default one: round to nearest, subnormals kept, no
- * exception trapped. There is no other condition: every length, every content, every set and every double, NaNs and
- * infinities too, has its answer.
+ * exception trapped. Its stack has room for the call. There is no other condition: every length, every content, every
+ * set and every double, NaNs and infinities too, has its answer.
  *
  * The mode. A process begins in the default one. But a program that is linked with -ffast-math flushes subnormals, as
- * may one that loads a library which is, and fesetround has it round otherwise. Answers are then wrong, and
+ * may one that loads a library which is, and fesetround has it round otherwise. Answers may then be wrong, and
  * dramulenz_check may accept a false sheet. dramulenz_mode() tells. Who does not know the mode sets the default one, by
- * <fenv.h>:
+ * <fenv.h> (with glibc, link with -lm):
  *
  *     fenv_t kept;
  *     fegetenv(&kept);
@@ -42,9 +42,10 @@
  *
  * That this ends the flushing too was tried with glibc 2.36; with another C library ask dramulenz_mode() before the call.
  *
- * The functions keep nothing between calls and allocate nothing. Of the stack dramulenz_mark and dramulenz_write take
- * up to 83,000 bytes, dramulenz_check up to 91,000 and dramulenz_root up to 100: measured, not proved; host/c/stack.c
- * measures it again. Of the C library the archive needs memcpy and memset.
+ * The stack. dramulenz_mark and dramulenz_write take up to 83,000 bytes of it, dramulenz_check up to 91,000 and
+ * dramulenz_root up to 100: measured, not proved. host/c/stack.c measures it again.
+ *
+ * The functions keep nothing between calls and allocate nothing. Of the C library the archive needs memcpy and memset.
  */
 #ifndef DRAMULENZ_H
 #define DRAMULENZ_H

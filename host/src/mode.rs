@@ -89,3 +89,22 @@ pub mod word {
         unsafe { asm!("msr fpcr, {}", in(reg) word, options(nostack)) };
     }
 }
+
+#[cfg(test)]
+mod tests {
+    use super::*;
+
+    /// Subnormals are flushed.
+    const ANOTHER: Word = if cfg!(target_arch = "x86_64") { 0x9fc0 } else { 1 << 24 };
+
+    #[test]
+    fn the_callers_mode_is_put_back_where_a_call_unwinds() {
+        word::write(ANOTHER);
+        let unwound = std::panic::catch_unwind(|| in_default(|| panic!("in mode {:#x}", word::read())));
+        let left = word::read();
+        word::write(word::DEFAULT);
+        assert_eq!(left, ANOTHER);
+        let said = unwound.map_err(|said| said.downcast::<String>().expect("a panic with its words"));
+        assert_eq!(said, Err(Box::new(format!("in mode {:#x}", word::DEFAULT))));
+    }
+}
