@@ -1,4 +1,4 @@
-# shellcheck shell=sh
+# shellcheck shell=sh disable=SC2034 # what is set here is used there
 # host/toolchain.sh: read by host/test and bench/run, in the repository's root. The library is code for
 # x86-64, so Rust that links it must be compiled for x86-64 too, and on another machine run by the
 # kit's emulator.
@@ -17,14 +17,15 @@ make_library() {
     return 1
 }
 
-# Sets rust, the rustc to call; words, what it wants for x86-64; and runner, what runs the programs.
-# Where something is missing: sets missing to what it is, and is false.
+# Sets rust, the rustc to call; words, what it wants for x86-64; gcc, if there is one, with its own words;
+# and runner, what runs the programs. Where something is missing: sets missing to what it is, and is false.
 find_toolchain() {
-    rust='' words='' runner='' missing=''
+    rust='' words='' gcc='' runner='' missing=''
     guide=$(rt doc 2>/dev/null) || missing='there is no rt'
     if [ "$(uname -m)" = x86_64 ]; then
         command -v cargo >/dev/null || missing='there is no cargo'
         rust=$(command -v rustc) || missing='there is no rustc'
+        gcc=$(command -v gcc || :)
         [ -z "$missing" ]
         return
     fi
@@ -46,8 +47,9 @@ find_toolchain() {
     # may fail; so the question is answered with an error, which Rust takes for 'not known'.
     mkdir -p target/x86
     echo 'int pthread_getattr_np(void) { return 38; }' | x86_64-linux-gnu-gcc -c -x c -o target/x86/stack.o -
-    words="--target $target -C linker=x86_64-linux-gnu-gcc -C link-arg=$PWD/target/x86/stack.o"
-    words="$words -C link-arg=-Wl,--dynamic-linker=$tools/lib/ld-linux-x86-64.so.2,-rpath,$tools/lib"
+    kits="-Wl,--dynamic-linker=$tools/lib/ld-linux-x86-64.so.2,-rpath,$tools/lib"
+    words="--target $target -C linker=x86_64-linux-gnu-gcc -C link-arg=$PWD/target/x86/stack.o -C link-arg=$kits"
+    gcc="x86_64-linux-gnu-gcc $kits"
 }
 
 # Gets what find_toolchain misses, in a gate alone (CI=true): nobody else's machine is changed.

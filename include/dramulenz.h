@@ -11,7 +11,8 @@
  *
  * `set` has the tests that are asked for in the same bits: 1 is shewhart, 255 nelson, 305 western_electric.
  *
- * Answers. Bits 0 to 7 of each answer are its number:
+ * Answers. dramulenz_root answers a double, +0.0 where it refuses. The others answer a word whose bits 0 to 7 are a
+ * number:
  *
  *     0 done                                       6 the lent room is shorter than needed
  *     2 values_len is not a multiple of eight      9 the bytes are no sheet
@@ -24,11 +25,27 @@
  * stays where it is, nobody else writes it, and nobody else reads it where the call writes to it. The array that a call
  * writes to shares no byte with the other one; two arrays that are only read may. No length is 2^63 or more. Where the
  * length is 0 nothing is read or written through the pointer, and it may be NULL or anything else; NULL with any other
- * length is not allowed. There is no other condition: every length, every content, every set and every double, NaNs and
- * infinities too, has its answer.
+ * length is not allowed. The floating-point mode of the thread is the default one: round to nearest, subnormals kept, no
+ * exception trapped. Its stack has room for the call. There is no other condition: every length, every content, every
+ * set and every double, NaNs and infinities too, has its answer.
  *
- * The functions keep nothing between calls and allocate nothing. A call takes some 82 KB of stack: measured, not proved.
- * Of the C library the archive needs memcpy and memset.
+ * The mode. A process begins in the default one. But a program that is linked with -ffast-math flushes subnormals, as
+ * may one that loads a library which is, and fesetround has it round otherwise. Answers may then be wrong, and
+ * dramulenz_check may accept a false sheet. dramulenz_mode() tells. Who does not know the mode sets the default one, by
+ * <fenv.h> (with glibc, link with -lm):
+ *
+ *     fenv_t kept;
+ *     fegetenv(&kept);
+ *     fesetenv(FE_DFL_ENV);
+ *     answer = dramulenz_check(..);
+ *     fesetenv(&kept);
+ *
+ * That this ends the flushing too was tried with glibc 2.36; with another C library ask dramulenz_mode() before the call.
+ *
+ * The stack. dramulenz_mark and dramulenz_write take up to 83,000 bytes of it, dramulenz_check up to 91,000 and
+ * dramulenz_root up to 100: measured, not proved. host/c/stack.c measures it again.
+ *
+ * The functions keep nothing between calls and allocate nothing. Of the C library the archive needs memcpy and memset.
  */
 #ifndef DRAMULENZ_H
 #define DRAMULENZ_H
@@ -82,9 +99,33 @@ uint64_t dramulenz_write(const uint8_t *values, size_t values_len, double ucl, d
 /*
  * The square root of x, rounded to the nearest double; the root of +0.0 and of -0.0 is the same zero.
  *
- * Refuses a NaN, an infinity and x below zero (number 3), and gives +0.0 then.
+ * Refuses a NaN, an infinity and x below zero, and gives +0.0 then. Of all that it takes, +0.0 alone has that root.
  */
 double dramulenz_root(double x);
+
+/*
+ * Whether the thread's floating-point mode is another than the default one: 0 where it is the default one, else 1. It
+ * makes no difference which exceptions have been raised before.
+ *
+ * Where it cannot tell it gives 1: on a machine that is neither x86-64 nor aarch64, and with a compiler that does not
+ * take GNU's __asm__.
+ */
+static inline int dramulenz_mode(void)
+{
+    /* The control word is read, since a compiler may work out arithmetic itself, in the default mode. "memory" keeps the
+     * reading between the calls that it stands between. */
+#if defined(__GNUC__) && defined(__x86_64__)
+    uint32_t word;
+    __asm__ __volatile__("stmxcsr %0" : "=m"(word) : : "memory");
+    return (word & 0xFFC0) != 0x1F80;
+#elif defined(__GNUC__) && defined(__aarch64__)
+    uint64_t word;
+    __asm__ __volatile__("mrs %0, fpcr" : "=r"(word) : : "memory");
+    return word != 0;
+#else
+    return 1;
+#endif
+}
 
 #ifdef __cplusplus
 }

@@ -1,6 +1,8 @@
 //! How long our calls take, and the Rust's for the same. README.md says what each line means.
 
 mod data;
+#[path = "../../host/src/mode.rs"]
+mod mode;
 mod ours;
 mod rust;
 mod time;
@@ -13,6 +15,9 @@ const NELSON: u16 = 255;
 const WESTERN_ELECTRIC: u16 = 305;
 const EIGHT_ONE_SIDE: u16 = 1 << 8;
 
+/// A floating-point mode that is not the default one: subnormals are flushed.
+const FLUSHING: mode::word::Word = if cfg!(target_arch = "x86_64") { 0x9fc0 } else { 1 << 24 };
+
 fn main() {
     let word = std::env::args().nth(1);
     let turns = word.and_then(|w| w.parse().ok()).expect("a number of turns");
@@ -20,6 +25,7 @@ fn main() {
     marking_bytes(turns);
     sheets(turns);
     roots(turns);
+    modes(turns);
     evaluating(turns);
 }
 
@@ -133,6 +139,31 @@ fn roots(turns: usize) {
     println!();
     println!("{:<36}{:>8}{:>16}{:>8}", "root, ns each", "ours", "the machine's", "ratio");
     println!("{:<36}{mine:>8.2}{machine:>16.2}{:>8.2}", "any magnitude", mine / machine);
+}
+
+/// What the package adds to a call, so that its mode is the default one: on the call that takes least.
+fn modes(turns: usize) {
+    println!();
+    println!("{:<36}{:>8}{:>16}{:>8}", "the mode, ns a call", "bare", "guarded", "more");
+    for (name, callers) in
+        [("called in the default mode", mode::word::DEFAULT), ("called in another mode", FLUSHING)]
+    {
+        let [bare, guarded] = medians(
+            turns,
+            [&mut || under(callers, || ours::root(opaque(0.0))), &mut || {
+                under(callers, || mode::in_default(|| ours::root(opaque(0.0))))
+            }],
+        )
+        .map(|t| t / POINTS as f64);
+        println!("{name:<36}{bare:>8.2}{guarded:>16.2}{:>8.2}", guarded - bare);
+    }
+}
+
+/// Calls as often as there are points, in a floating-point mode.
+fn under(callers: mode::word::Word, call: impl Fn() -> f64) {
+    mode::word::write(callers);
+    (0..POINTS).for_each(|_| keep(call()));
+    mode::word::write(mode::word::DEFAULT);
 }
 
 fn evaluating(turns: usize) {

@@ -39,11 +39,20 @@
 //! | [`check`] | `TooMany`, `SetTooLarge`, `NotFinite`, `Form`, `Differs`, `Wrong` |
 //! | those of [`bytes`] | `Length`, then the same |
 //! | [`root`] | `NotFinite` |
+//!
+//! [`Refusal::Unknown`] stands in no row: it says that another library is linked.
+//!
+//! # The floating-point mode
+//!
+//! The library is proved for the default mode of floating-point arithmetic: round to nearest, subnormals
+//! kept, no exception trapped. Every call sets it and puts the caller's back, so the answers do not
+//! depend on it, as that of a C program that is linked with `-ffast-math`.
 
 #![deny(missing_docs)]
 
 mod boundary;
 pub mod bytes;
+mod mode;
 mod refusal;
 mod views;
 
@@ -204,8 +213,9 @@ pub fn write(values: &[f64], limits: Limits, set: RuleSet, out: &mut [u8]) -> Re
 /// ```
 pub fn root(x: f64) -> Result<f64, Refusal> {
     let root = boundary::root(x);
-    // The library answers a refusal with +0.0, and only the zeros have a root that is zero.
-    if root == 0.0 && x != 0.0 {
+    // The library answers a refusal with +0.0, which is the root of +0.0 alone. Bits are compared, since
+    // here the mode is the caller's, in which a subnormal may be equal to zero.
+    if root.to_bits() == 0 && x.to_bits() != 0 {
         return Err(Refusal::NotFinite);
     }
     Ok(root)

@@ -32,10 +32,16 @@ pub enum Refusal {
         /// The marks that the sheet states of it.
         stated: u16,
     },
+    /// The library's answer has a number that this package does not know: the library that is linked is
+    /// not the one that the package is for. It says nothing about what was passed.
+    Unknown {
+        /// The whole answer, with its number in bits 0 to 7.
+        answer: u64,
+    },
 }
 
 impl Refusal {
-    /// The refusal's number in document 01.
+    /// The refusal's number in document 01; of [`Unknown`](Refusal::Unknown), the one that was answered.
     ///
     /// ```
     /// assert_eq!(dramulenz::Refusal::Form { at: 4 }.number(), 9);
@@ -50,6 +56,7 @@ impl Refusal {
             Refusal::Form { .. } => 9,
             Refusal::Differs => 10,
             Refusal::Wrong { .. } => 11,
+            Refusal::Unknown { answer } => answer as u8,
         }
     }
 }
@@ -58,7 +65,9 @@ impl fmt::Display for Refusal {
     fn fmt(&self, to: &mut fmt::Formatter<'_>) -> fmt::Result {
         match self {
             Refusal::Length => write!(to, "the length of the values is not a multiple of eight bytes"),
-            Refusal::NotFinite => write!(to, "a value or limit is not finite"),
+            Refusal::NotFinite => {
+                write!(to, "a value or limit is not finite, or a root is asked of a number below zero")
+            }
             Refusal::SetTooLarge => write!(to, "the rule set is over 511"),
             Refusal::TooMany => write!(to, "there are more than 4,096 values"),
             Refusal::TooShort => write!(to, "the slice for the answer is too short"),
@@ -66,6 +75,9 @@ impl fmt::Display for Refusal {
             Refusal::Differs => write!(to, "the sheet is about other points or another rule set"),
             Refusal::Wrong { at, right, stated } => {
                 write!(to, "wrong marks at position {at}: {stated} stated, {right} right")
+            }
+            Refusal::Unknown { answer } => {
+                write!(to, "the answer {answer:#x} is not known: another library is linked")
             }
         }
     }

@@ -189,13 +189,14 @@ fn odd_rooms_of_bytes() {
 fn numbers_and_words() {
     let all = [
         (Refusal::Length, 2, "the length of the values is not a multiple of eight bytes"),
-        (Refusal::NotFinite, 3, "a value or limit is not finite"),
+        (Refusal::NotFinite, 3, "a value or limit is not finite, or a root is asked of a number below zero"),
         (Refusal::SetTooLarge, 4, "the rule set is over 511"),
         (Refusal::TooMany, 5, "there are more than 4,096 values"),
         (Refusal::TooShort, 6, "the slice for the answer is too short"),
         (Refusal::Form { at: 3 }, 9, "the bytes are no sheet, at byte 3"),
         (Refusal::Differs, 10, "the sheet is about other points or another rule set"),
         (Refusal::Wrong { at: 4, right: 1, stated: 0 }, 11, "wrong marks at position 4: 0 stated, 1 right"),
+        (Refusal::Unknown { answer: 0x10c }, 12, "the answer 0x10c is not known: another library is linked"),
     ];
     for (refusal, number, words) in all {
         assert_eq!(refusal.number(), number);

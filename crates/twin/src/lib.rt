@@ -1,5 +1,5 @@
-// The library's functions for C: values are bytes, eight to an f64, marks are bytes, two to a point, low byte first. Each answer has
-// document 01's number in bits 0 to 7.
+// The library's functions for C: values are bytes, eight to an f64, marks are bytes, two to a point, low byte first. Each answer but
+// that of the root, which is an f64, has document 01's number in bits 0 to 7.
 use root::Rooted;
 use rules::Limits;
 use sets::RuleSet;
