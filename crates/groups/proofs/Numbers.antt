@@ -1,5 +1,7 @@
--- The laws that later layers cite: what is written is read back, whatever follows; what is read is the one string of its value;
--- no number's string is the beginning of another's. Assumes nothing.
+-- What numbers in groups promise together: what is written is read back, whatever follows; what is read is the one string of its value;
+-- no number's string is the beginning of another's. Sheets rest on `read-there`,
+-- `written-read`, `read-one` and `read-two`; the others are for readers.
+-- Assumes nothing.
 use Prim.Native.Nat.{ℕ, zero, suc, _+_, _*_, _/_, _%_, _^_, _≤_, _<_}
 use native.Mathlib.Omega.{arith}
 use mathlib.Core.Path.{_≡_, refl, sym, ap, ap₂, _∙_, subst}

@@ -1,4 +1,4 @@
--- Reading and writing an f64's bits: the value of a finite number that is not negative, and the bits of m * 2^k / 2^589. Assumes nothing.
+-- Reading and writing an f64's bits: the value of a finite number with a clear sign bit, and the bits of m * 2^k / 2^589. Assumes nothing.
 use mathlib.Core.Path.{_≡_, refl, sym, ap, _∙_, subst}
 use mathlib.Core.Bool.{Bool, true, false, not, cond}
 use mathlib.Core.Logic.{_⊎_, inl, inr, ⊎-elim}
@@ -45,7 +45,7 @@ pub beyond : (s : Bool) (t : ℕ) → ofFields binary64 s 2047 t ≡ cond (eqb t
 unfolding ofFields
 beyond s t = refl
 
--- ---- the value of a finite number that is not negative, in units of the smallest subnormal
+-- ---- the value of a finite number with a clear sign bit, in units of the smallest subnormal
 pub value-subnormal : (b : ℕ) → b < 2 ^ 52 → HasValue (ofBits binary64 b) false (b * 2 ^ 0) (2 ^ 1074)
 value-subnormal b h =
     let none : b / 2 ^ 52 ≡ 0 = omega arith in

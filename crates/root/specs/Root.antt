@@ -32,8 +32,8 @@ lower m k = cond (eqb m (2 ^ 52)) ((4 * m - 1) * (4 * m - 1) * 4 ^ k) ((2 * m - 
 unfoldable pub upper : ℕ → ℕ → ℕ
 upper m k = (2 * m + 1) * (2 * m + 1) * 4 ^ (k + 1)
 
--- "For finite x > 0 the answer is m * 2^e with 2^52 <= m < 2^53", and the two tests. r is an f64 (the format holds it), it is not negative, and
--- its value is the fraction m * 2^k / 2^589.
+-- "For finite x > 0 the answer is m * 2^e with 2^52 <= m < 2^53", and the two tests. r is an f64 (the format holds it), its sign bit is
+-- clear, and its value is the fraction m * 2^k / 2^589.
 pub record IsRoot (x r : Float) : Type 0 where
   pub m : ℕ
   pub k : ℕ

@@ -5,7 +5,7 @@ use Prim.Native.Nat.{ℕ, _+_, _*_, _^_, _≤_, _<_}
 use lib.Ieee.{binary64, ofBits}
 use Rattle.root.specs.Root.{scaled, IsRoot}
 
--- the bits of +infinity: those of a finite number that is not negative are below them
+-- the bits of +infinity: those of a finite number with a clear sign bit are below them
 abbrev pub infinity : ℕ
 infinity = 0x7ff0000000000000
 

@@ -12,7 +12,7 @@ pub enum Rooted {
     Refused,
 }
 
-// The bits of +infinity: the bits of every finite number that is not negative are below them.
+// The bits of +infinity: those of every finite number with a clear sign bit are below them.
 const INFINITY: u64 = 0x7ff0_0000_0000_0000;
 
 // The bits of -0.0.

@@ -1,5 +1,6 @@
 // The engine of marking: each value gets a code, one bit for each comparison, and the tests of a position are read off
-// the fifteen codes that end there. Neither loop branches, so that both run over several values at a time.
+// the fifteen codes that end there: one loop makes the codes, one narrows them, one reads the marks off. None branches, so
+// that each runs over several values at a time.
 use super::Lines;
 ghost use mathlib.Core.Path.{_≡_};
 ghost use mathlib.Core.List.{List, [], _∷_, _++_, map};

@@ -17,7 +17,8 @@ pub enum Test {
     EightOneSide,
 }
 
-/// A rule set. Bit b of the mask is set where the set has the test of bit b; a mask over 511 is none.
+/// A rule set. Bit b of the mask is set where the set has the test of bit b. A mask over 511 is that of no set, and the calls
+/// refuse it (4).
 pub struct RuleSet {
     pub mask: u16,
 }

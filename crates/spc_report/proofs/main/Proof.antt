@@ -1,9 +1,7 @@
 -- `spc_report::main` is safe: what was read lies within its room, and a report within its own. Assumes nothing.
-use mathlib.Core.Path.{subst}
-use Prim.Native.Nat.{_≤_}
 use native.Mathlib.Omega.{arith}
 use lib.ListN.{length}
-use Rattle.spc_report.specs.Input.{AtMost}
+use Rattle.spc_report.proofs.Reading.{within}
 use borrow.Author.Needs.{needs}
 use Rattle.spc_report.proofs.main.Statement.{statement}
 use Rattle.spc_report.proofs.main.Tie as tie
@@ -28,8 +26,8 @@ part-report-start c = search needs
 
 part-report-end : tie.Need-part-report-end
 part-report-end c =
-    let few : c .before .before .before .n .given .0 .0 ≤ length (c .before .before .before .before .before .before .read-input .last .0) = subst (AtMost (length (c .before .before .before .before .before .before .read-input .last .0))) (c .before .before .before .n .given .1) (c .before .before .before .before .before .before .read-input .ensures) in
-    omega (arith, c .before .before .before .before .before .before .read-input .kept)
+    let input = c .before .before .before .before .before .before .read-input in
+    omega (arith, within (length (input .last .0)) (c .before .before .before .n .given .1) (input .ensures), input .kept)
 
 slice-aggregate-report : tie.Need-slice-aggregate-report
 slice-aggregate-report c = search needs

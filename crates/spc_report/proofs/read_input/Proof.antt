@@ -1,11 +1,11 @@
 -- `spc_report::read_input` meets its contract. The loop's invariant: what was read lies within the room. The measure is what is left of it.
 -- Assumes nothing.
 use Prim.Native.Nat.{_≤_, _-_}
-use mathlib.Core.Path.{_≡_, subst}
+use mathlib.Core.Path.{_≡_}
 use native.Mathlib.Omega.{arith}
 use borrow.Author.Needs.{needs}
 use lib.ListN.{length}
-use Rattle.spc_report.specs.Input.{AtMost}
+use Rattle.spc_report.proofs.Reading.{within}
 use Rattle.spc_report.proofs.read_input.Statement.{statement}
 use Rattle.spc_report.proofs.read_input.Tie as tie
 
@@ -41,18 +41,18 @@ returns c = search needs
 
 add-done : tie.Need-add-done Inv-loop μ-loop
 add-done c =
-    let few : c .before .before .n .given .0 .0 ≤ length (c .before .before .before .before .before .before .read-some .last .0) = subst (AtMost (length (c .before .before .before .before .before .before .read-some .last .0))) (c .before .before .n .given .1) (c .before .before .before .before .before .before .read-some .ensures) in
-    omega (arith, c .before .before .before .before .before .before .read-some .kept)
+    let some = c .before .before .before .before .before .before .read-some in
+    omega (arith, within (length (some .last .0)) (c .before .before .n .given .1) (some .ensures), some .kept)
 
 loop-less : tie.Need-loop-less Inv-loop μ-loop
 loop-less c =
-    let few : c .before .before .n .given .0 .0 ≤ length (c .before .before .before .before .before .before .read-some .last .0) = subst (AtMost (length (c .before .before .before .before .before .before .read-some .last .0))) (c .before .before .n .given .1) (c .before .before .before .before .before .before .read-some .ensures) in
-    omega (arith, c .before .before .before .before .before .before .read-some .kept)
+    let some = c .before .before .before .before .before .before .read-some in
+    omega (arith, within (length (some .last .0)) (c .before .before .n .given .1) (some .ensures), some .kept)
 
 loop-again : tie.Need-loop-again Inv-loop μ-loop
 loop-again c =
-    let few : c .before .before .n .given .0 .0 ≤ length (c .before .before .before .before .before .before .read-some .last .0) = subst (AtMost (length (c .before .before .before .before .before .before .read-some .last .0))) (c .before .before .n .given .1) (c .before .before .before .before .before .before .read-some .ensures) in
-    (omega (arith, c .before .before .before .before .before .before .read-some .kept), search needs)
+    let some = c .before .before .before .before .before .before .read-some in
+    (omega (arith, within (length (some .last .0)) (c .before .before .n .given .1) (some .ensures), some .kept), search needs)
 
 enum-told : tie.Need-enum-told Inv-loop μ-loop
 enum-told c = search needs

@@ -4,7 +4,7 @@ use Prim.Native.Nat.{ℕ}
 use native.Mathlib.Omega.{arith}
 use lib.ListN.{length}
 use Rattle.reports.specs.Report.{textOf}
-use Rattle.reports.proofs.Longest.{text-short, always-text as text}
+use Rattle.reports.proofs.Longest.{text-short, always-text}
 use borrow.Author.Needs.{needs}
 use Rattle.spc_report.proofs.report.Statement.{statement}
 use Rattle.spc_report.proofs.report.Tie as tie
@@ -23,16 +23,20 @@ same-length c = search needs
 
 returns : tie.Need-returns
 returns c =
-    let told = text (c .before .before .before .before .before .before .before .before .before .args .input .now) (length (c .before .before .before .before .before .before .before .before .before .args .out .now)) (c .before .before .before .before .before .report .result) (c .before .before .before .before .before .before .before .before .before .pre) (c .before .before .before .before .before .report .ensures .0) in
-    let is : c .before .len .given .0 .0 ≡ length (textOf (c .before .before .before .before .before .before .before .before .before .args .input .now)) = cc in
-    (is, omega (arith, c .before .before .before .before .before .report .kept, c .before .before .before .before .before .before .before .before .before .pre, text-short (c .before .before .before .before .before .before .before .before .before .args .input .now)))
+    let start = c .before .before .before .before .before .before .before .before .before in
+    let report = c .before .before .before .before .before .report in
+    let told = always-text (start .args .input .now) (length (start .args .out .now)) (report .result) (start .pre) (report .ensures .0) in
+    let whole : c .before .len .given .0 .0 ≡ length (textOf (start .args .input .now)) = cc in
+    (whole, omega (arith, report .kept, start .pre, text-short (start .args .input .now)))
 
 same-length-2 : tie.Need-same-length-2
 same-length-2 c = search needs
 
 returns-2 : tie.Need-returns-2
 returns-2 c =
-    let told = text (c .before .before .before .before .before .before .before .before .args .input .now) (length (c .before .before .before .before .before .before .before .before .args .out .now)) (c .before .before .before .before .report .result) (c .before .before .before .before .before .before .before .before .pre) (c .before .before .before .before .report .ensures .0) in
+    let start = c .before .before .before .before .before .before .before .before in
+    let report = c .before .before .before .before .report in
+    let told = always-text (start .args .input .now) (length (start .args .out .now)) (report .result) (start .pre) (report .ensures .0) in
     let never : _≡_ {A = ℕ} 0 1 = cc in
     absurd (omega arith)
 
