@@ -21,7 +21,7 @@ fn shows(test: usize, l: &Limits, window: &[f64]) -> bool {
     let rises: Vec<bool> = window.windows(2).map(|w| w[1] > w[0]).collect();
     let falls: Vec<bool> = window.windows(2).map(|w| w[1] < w[0]).collect();
     let by_turns = |odd: &[bool], even: &[bool]| {
-        (0..rises.len()).all(|i| if i.is_multiple_of(2) { even[i] } else { odd[i] })
+        (0..rises.len()).all(|i| if i % 2 == 0 { even[i] } else { odd[i] })
     };
     match test {
         0 => window[0] > l.ucl || window[0] < l.lcl,

@@ -6,10 +6,10 @@ use mathlib.Core.List.{List, [], _∷_, _++_}
 use Prim.Native.Nat.{ℕ, zero, suc, _+_, _*_, _≤_, _<_}
 use native.Mathlib.Omega.{arith}
 use borrow.Author.Tests.{le-leb, ltb-false}
-use lib.Dec.{ltb, eqb}
+use lib.Dec.{leb, ltb, eqb}
 use lib.Ieee.{Float}
 use lib.ListN.{length, length-append}
-use Rattle.laws.specs.Front.{roomFor}
+use Rattle.laws.specs.Front.{atFront, atFrontIfRoom, roomFor}
 use Rattle.laws.specs.Refusals.{firstOf}
 use Rattle.groups.specs.declared.Reading.{Reading}
 use Rattle.groups.specs.declared.Reading.the-variants.{Number, Fault}
@@ -224,8 +224,13 @@ pub text-short : (s : List ℕ) → length (textOf s) ≤ longest
 unfolding textOf
 text-short s = text-on (flowOf s) (flow-fine s)
 
--- a room of that many bytes is never too short: whatever the promise of `report` allows there is a text
-pub always-text : (s : List ℕ) (room : ℕ) (r : Reported) → longest ≤ room → reported r ≡ roomFor (textOf s) room → r ≡ Text (length (textOf s))
-always-text s room r h e =
-    reported-one r (Text (length (textOf s)))
-    (e ∙ ap (λ (b : Bool). cond {A = ℕ × ℕ} b (0, length (textOf s)) (6, 0)) (le-leb (length (textOf s)) room (omega (arith, text-short s))))
+-- a room of that many bytes is never too short: whatever the promise of `report` allows there is the text, at its front
+module _ (s room : List ℕ) (h : longest ≤ length room) where
+  enough : leb (length (textOf s)) (length room) ≡ true
+  enough = le-leb (length (textOf s)) (length room) (omega (arith, text-short s))
+
+  pub always-text : (r : Reported) → reported r ≡ roomFor (textOf s) (length room) → r ≡ Text (length (textOf s))
+  always-text r e = reported-one r (Text (length (textOf s))) (rw enough at e)
+
+  pub always-written : (after : List ℕ) → after ≡ atFrontIfRoom (textOf s) room → after ≡ atFront (textOf s) room
+  always-written after e = rw enough at e

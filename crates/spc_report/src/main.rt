@@ -7,6 +7,7 @@ use reports::Reported;
 ghost use Prim.Native.Nat.{_≤_};
 ghost use mathlib.Core.Path.{_≡_};
 ghost use lib.ListN.{length};
+ghost use Rattle.laws.specs.Front.{atFront};
 ghost use Rattle.reports.specs.Report.{textOf};
 ghost use Rattle.spc_report.specs.Input.{AtMost};
 
@@ -59,6 +60,7 @@ fn room() -> [u8; 405_704]
 fn report(input: &[u8], out: &mut [u8]) -> usize
     requires { ⌜ 405704 ≤ length (now out) ⌝ }
     ensures length { λ r. ⌜ r ≡ length (textOf (now (input .entry))) ⌝ }
+    ensures text { λ r. ⌜ now (out .exit) ≡ atFront (textOf (now (input .entry))) (now (out .entry)) ⌝ }
     ensures within { λ r. ⌜ r ≤ length (now (out .exit)) ⌝ }
 {
     match reports::report(input, out) {

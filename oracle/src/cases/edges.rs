@@ -10,7 +10,7 @@ use crate::scope::WINDOWS;
 /// 1.0 for its upper side and -1.0 for its lower.
 fn shown(test: usize, l: &Limits, way: f64, n: usize) -> Vec<f64> {
     let s = one_sigma(l) * way;
-    let turn = |i: usize| if i.is_multiple_of(2) { 1.0 } else { -1.0 };
+    let turn = |i: usize| if i % 2 == 0 { 1.0 } else { -1.0 };
     let value = |i: usize| match test {
         0 => l.cl + 4.0 * s,
         1 | 8 => l.cl + s / 2.0,

@@ -4,7 +4,7 @@ use Prim.Native.Nat.{ℕ}
 use native.Mathlib.Omega.{arith}
 use lib.ListN.{length}
 use Rattle.reports.specs.Report.{textOf}
-use Rattle.reports.proofs.Longest.{text-short, always-text}
+use Rattle.reports.proofs.Longest.{text-short, always-text, always-written}
 use borrow.Author.Needs.{needs}
 use Rattle.spc_report.proofs.report.Statement.{statement}
 use Rattle.spc_report.proofs.report.Tie as tie
@@ -25,9 +25,10 @@ returns : tie.Need-returns
 returns c =
     let start = c .before .before .before .before .before .before .before .before .before in
     let report = c .before .before .before .before .before .report in
-    let told = always-text (start .args .input .now) (length (start .args .out .now)) (report .result) (start .pre) (report .ensures .0) in
+    let told = always-text (start .args .input .now) (start .args .out .now) (start .pre) (report .result) (report .ensures .0) in
     let whole : c .before .len .given .0 .0 ≡ length (textOf (start .args .input .now)) = cc in
-    (whole, omega (arith, report .kept, start .pre, text-short (start .args .input .now)))
+    let written = always-written (start .args .input .now) (start .args .out .now) (start .pre) (report .last .1 .0) (report .ensures .1) in
+    (whole, (written, omega (arith, report .kept, start .pre, text-short (start .args .input .now))))
 
 same-length-2 : tie.Need-same-length-2
 same-length-2 c = search needs
@@ -36,7 +37,7 @@ returns-2 : tie.Need-returns-2
 returns-2 c =
     let start = c .before .before .before .before .before .before .before .before in
     let report = c .before .before .before .before .report in
-    let told = always-text (start .args .input .now) (length (start .args .out .now)) (report .result) (start .pre) (report .ensures .0) in
+    let told = always-text (start .args .input .now) (start .args .out .now) (start .pre) (report .result) (report .ensures .0) in
     let never : _≡_ {A = ℕ} 0 1 = cc in
     absurd (omega arith)
 
