@@ -31,7 +31,7 @@ use Rattle.sheets.specs.declared.Checked.the-variants.{Accepted}
 use Rattle.sheets.specs.declared.Written.the-variants.{Sheet}
 use Rattle.sheets.specs.Said.{sheet, said}
 use Rattle.sheets.specs.Answers.{Verdict, checked, refusal, checkOf, seriesSheet, writeOf, roomAfter}
-use Rattle.sheets.proofs.Sheets.{said-written, said-sound}
+use Rattle.sheets.proofs.Sheets.{IsSheet, said-written, said-sound, well-formed}
 use Rattle.sheets.proofs.Judging.{check-done, write-done, room-done}
 use Rattle.sheets.proofs.Answers.{checked-one, written-one}
 use Rattle.sheets.proofs.check.Reads as check
@@ -44,11 +44,12 @@ use Rattle.sheets.proofs.Accepting.{accepted-said, right-inside, right-
 abbrev pub accepted : Verdict
 accepted = (0, 0, 0, 0)
 
--- what (a) asks of a sheet
+-- What (a) asks of a sheet. It is well formed where it is the sheet of a set and of marks inside it, both within 01's bounds: no reader is
+-- needed to say so.
 pub record Right (limits : Limits) (set : ℕ) (values : List Float) (bytes : List ℕ) : Type 0 where
   pub named : ℕ
   pub marks : List ℕ
-  pub well-formed : said bytes ≡ sheet named marks
+  pub well-formed : IsSheet 4096 511 bytes 0 named marks
   pub that-count : length marks ≡ length values
   pub that-set : named ≡ set
   pub each-mark : (i : ℕ) (t : Test) → i < length values
@@ -78,13 +79,14 @@ module _ (limits : Limits) (set : ℕ) (values : List Float)
     (λ e. record {
       named = set;
       marks = marksOf limits set values;
-      well-formed = accepted-is bytes .0 e;
+      well-formed = said-sound 4096 511 bytes 0 set (marksOf limits set values) is-bytes (accepted-is bytes .0 e);
       that-count = length-marks limits set values;
       that-set = refl;
       each-mark = λ i t h. ap (λ (m : ℕ). has m t) (marks-at limits set values i h) ∙ marked (linesOf limits) set values i t;
     }),
     (λ r.
-        let its : said bytes ≡ sheet set (r .marks) = r .well-formed ∙ ap (λ (t : ℕ). sheet t (r .marks)) (r .that-set) in
+        let says = well-formed 4096 511 (omega arith) (omega arith) bytes is-bytes (r .named) (r .marks) .1 (r .well-formed) in
+        let its : said bytes ≡ sheet set (r .marks) = says ∙ ap (λ (t : ℕ). sheet t (r .marks)) (r .that-set) in
         let inside = said-sound 4096 511 bytes 0 set (r .marks) is-bytes its .inside in
         accepted-is bytes .1 (its ∙ ap (sheet set) (right-by-tests limits set values valid (r .marks) (r .that-count) inside (r .each-mark)))),
   )
