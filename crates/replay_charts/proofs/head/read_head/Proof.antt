@@ -66,7 +66,7 @@ returns-5 : tie.Need-returns-5
 returns-5 c =
     let s = c .before .before .before .before .before .before .before .before .before in
     let size = subst (AtMost 25) (s .size .given .1) (s .before .before .read-size .ensures) in
-    (size, subst (AtMost 4096) (c .before .count .given .1) (c .before .before .before .read-small4 .ensures))
+    (size, subst (AtMost 4096) (c .before .count .given .1) (c .before .before .before .read-small4 .ensures .1))
 
 returns-6 : tie.Need-returns-6
 returns-6 c = search needs

@@ -16,7 +16,7 @@ read-small-requires : tie.Need-read-small-requires
 read-small-requires c κs = search needs
 
 returns : tie.Need-returns
-returns c = at-most-more (c .read-small .result) (c .read-small .ensures)
+returns c = at-most-more (c .read-small .result) (c .read-small .ensures .1)
 
 read-small-requires-2 : tie.Need-read-small-requires-2
 read-small-requires-2 c κs = search needs
