@@ -15,18 +15,14 @@ enum-known-end c = search needs
 
 returns : tie.Need-returns
 unfolding closingFrom
-returns c =
-    let found = sym (c .before .before .before .before .read-small .ensures .0) ∙ ap ofSmall (c .before .before .end .given .1) in
-    rw (found, lt-ltb _ _ (c .if1 .taken))
+returns c = rw (sym (c .before .before .before .before .read-small .ensures .0) ∙ ap ofSmall (c .before .before .end .given .1), lt-ltb _ _ (c .if1 .taken))
 
 enum-known-fault : tie.Need-enum-known-fault
 enum-known-fault c = search needs
 
 returns-2 : tie.Need-returns-2
 unfolding closingFrom
-returns-2 c =
-    let found = sym (c .before .before .before .before .read-small .ensures .0) ∙ ap ofSmall (c .before .before .end .given .1) in
-    rw (found, le-ltb _ _ (c .if1 .left))
+returns-2 c = rw (sym (c .before .before .before .before .read-small .ensures .0) ∙ ap ofSmall (c .before .before .end .given .1), le-ltb _ _ (c .if1 .left))
 
 returns-3 : tie.Need-returns-3
 unfolding closingFrom
