@@ -1,2 +1,3 @@
--- The laws of comparing.
+-- The laws of reading and of comparing.
+mod Rows
 mod Matching

@@ -1,2 +1,5 @@
-pub mod Apart
+-- What reading finds, and what comparing says.
+pub mod Found
+pub mod Reading
 pub mod Taken
+pub mod Apart

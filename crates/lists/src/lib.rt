@@ -15,7 +15,12 @@ pub use words::put;
 pub use words::say;
 pub use words::say_bits;
 pub use words::totals;
+ghost use mathlib.Core.Path.{_≡_};
 ghost use lib.ListN.{length};
+ghost use Rattle.laws.specs.Front.{atFront};
+ghost use Rattle.lists.specs.Found.{ofNumber, ofSmall, ofFloat, ofBytes, ofPassed};
+ghost use Rattle.lists.specs.Reading.{cut, noNumber, numberFrom, smallFrom, answerFrom, floatFrom, bytesFrom};
+ghost use Rattle.lists.specs.Reading.{floatsFrom, marksFrom, openingOf, closingFrom};
 ghost use Rattle.lists.specs.Taken.{AtMost, Within};
 
 /// Bytes of the longest list.
@@ -128,7 +133,9 @@ pub enum Passed {
 }
 
 // Whether the bytes end before a number that begins at the place does.
-fn is_cut(list: &[u8], at: usize) -> bool {
+fn is_cut(list: &[u8], at: usize) -> bool
+    ensures { λ r. ⌜ r ≡ cut (now (list .entry)) at ⌝ }
+{
     let mut i = at;
     while i < list.len() {
         if list[i] < 128 {
@@ -140,7 +147,9 @@ fn is_cut(list: &[u8], at: usize) -> bool {
 }
 
 // Why no number stands at the place.
-fn fault_of(list: &[u8], at: usize, item: Item) -> Fault {
+fn fault_of(list: &[u8], at: usize, item: Item) -> Fault
+    ensures { λ r. ⌜ r ≡ noNumber (now (list .entry)) at item ⌝ }
+{
     if is_cut(list, at) {
         return Fault {
             at,
@@ -156,7 +165,9 @@ fn fault_of(list: &[u8], at: usize, item: Item) -> Fault {
 }
 
 /// Reads the number at the place `at`.
-pub fn read_number(list: &[u8], at: usize, item: Item) -> Number {
+pub fn read_number(list: &[u8], at: usize, item: Item) -> Number
+    ensures { λ r. ⌜ ofNumber r ≡ numberFrom (now (list .entry)) item at ⌝ }
+{
     match groups::read_number(list, at) {
         Reading::Number { value, next } => Number::Read(Wide { value, next }),
         Reading::Fault { at } => Number::Fault(fault_of(list, at, item)),
@@ -165,7 +176,8 @@ pub fn read_number(list: &[u8], at: usize, item: Item) -> Number {
 
 /// Reads the number at the place `at`, which has to be `low` to `high`.
 pub fn read_small(list: &[u8], at: usize, item: Item, low: u16, high: u16) -> Small
-    ensures { λ r. ⌜ AtMost high r ⌝ }
+    ensures { λ r. ⌜ ofSmall r ≡ smallFrom (now (list .entry)) item low high at ⌝ }
+    ensures most { λ r. ⌜ AtMost high r ⌝ }
 {
     match read_number(list, at, item) {
         Number::Read(read) => {
@@ -191,20 +203,23 @@ pub fn read_small(list: &[u8], at: usize, item: Item, low: u16, high: u16) -> Sm
 }
 
 /// Reads the answer at the place `at`: 01's number, which has to be 0, or 7 to `high`.
-pub fn read_answer(list: &[u8], at: usize, high: u16) -> Small {
+pub fn read_answer(list: &[u8], at: usize, high: u16) -> Small
+    ensures { λ r. ⌜ ofSmall r ≡ answerFrom (now (list .entry)) high at ⌝ }
+{
     match read_small(list, at, Item::Answer, 0, high) {
         Small::Read(read) => {
             let value = read.value;
-            if 0 < value {
-                if value < 7 {
-                    return Small::Fault(Fault {
-                        at,
-                        item: Item::Answer,
-                        why: Why::NoAnswer {
-                            value: value as u64,
-                        },
-                    });
-                }
+            if value == 0 {
+                return Small::Read(read);
+            }
+            if value < 7 {
+                return Small::Fault(Fault {
+                    at,
+                    item: Item::Answer,
+                    why: Why::NoAnswer {
+                        value: value as u64,
+                    },
+                });
             }
             Small::Read(read)
         }
@@ -213,28 +228,33 @@ pub fn read_answer(list: &[u8], at: usize, high: u16) -> Small {
 }
 
 /// Reads the f64 at the place `at`, which has to be finite.
-pub fn read_float(list: &[u8], at: usize, item: Item) -> Float {
+pub fn read_float(list: &[u8], at: usize, item: Item) -> Float
+    ensures { λ r. ⌜ ofFloat r ≡ floatFrom (now (list .entry)) item at ⌝ }
+{
     match read_number(list, at, item) {
         Number::Read(read) => {
-            let bits = read.value;
-            if bits & 0x7fff_ffff_ffff_ffff >= 0x7ff0_0000_0000_0000 {
-                return Float::Fault(Fault {
-                    at,
-                    item,
-                    why: Why::NotFinite,
+            let value = floats::of_bits(read.value);
+            if floats::is_finite(value) {
+                return Float::Read(Real {
+                    value,
+                    next: read.next,
                 });
             }
-            Float::Read(Real {
-                value: floats::of_bits(bits),
-                next: read.next,
+            Float::Fault(Fault {
+                at,
+                item,
+                why: Why::NotFinite,
             })
         }
         Number::Fault(fault) => Float::Fault(fault),
     }
 }
 
-/// Reads as many f64 as `out` has room for.
-pub fn read_floats(list: &[u8], at: usize, item: Item, out: &mut [f64]) -> Passed {
+/// Reads as many f64 as `out` has room for. Those before a fault stand at its front.
+pub fn read_floats(list: &[u8], at: usize, item: Item, out: &mut [f64]) -> Passed
+    ensures { λ r. ⌜ ofPassed r ≡ floatsFrom (now (list .entry)) item (length (now (out .entry))) at .1 ⌝ }
+    ensures values { λ r. ⌜ now (out .exit) ≡ atFront (floatsFrom (now (list .entry)) item (length (now (out .entry))) at .0) (now (out .entry)) ⌝ }
+{
     let mut next_at = at;
     let mut i = 0;
     while i < out.len() {
@@ -250,8 +270,11 @@ pub fn read_floats(list: &[u8], at: usize, item: Item, out: &mut [f64]) -> Passe
     Passed::Next(next_at)
 }
 
-/// Reads the marks of as many points as `out` has room for.
-pub fn read_marks(list: &[u8], at: usize, out: &mut [u16]) -> Passed {
+/// Reads the marks of as many points as `out` has room for. Those before a fault stand at its front.
+pub fn read_marks(list: &[u8], at: usize, out: &mut [u16]) -> Passed
+    ensures { λ r. ⌜ ofPassed r ≡ marksFrom (now (list .entry)) (length (now (out .entry))) at .1 ⌝ }
+    ensures values { λ r. ⌜ now (out .exit) ≡ atFront (marksFrom (now (list .entry)) (length (now (out .entry))) at .0) (now (out .entry)) ⌝ }
+{
     let mut next_at = at;
     let mut i = 0;
     while i < out.len() {
@@ -269,7 +292,8 @@ pub fn read_marks(list: &[u8], at: usize, out: &mut [u16]) -> Passed {
 
 /// Reads how many bytes there are at the place `at`, and passes over these.
 pub fn read_bytes(list: &[u8], at: usize, item: Item) -> Bytes
-    ensures { λ r. ⌜ Within (length (now (list .entry))) r ⌝ }
+    ensures { λ r. ⌜ ofBytes r ≡ bytesFrom (now (list .entry)) item at ⌝ }
+    ensures inside { λ r. ⌜ Within (length (now (list .entry))) r ⌝ }
 {
     match read_number(list, at, item) {
         Number::Read(read) => {
@@ -295,7 +319,9 @@ pub fn read_bytes(list: &[u8], at: usize, item: Item) -> Bytes
 }
 
 /// Reads what stands before the first case, and gives the number of cases.
-pub fn opening(list: &[u8]) -> Number {
+pub fn opening(list: &[u8]) -> Number
+    ensures { λ r. ⌜ ofNumber r ≡ openingOf (now (list .entry)) ⌝ }
+{
     if MOST_BYTES < list.len() {
         return Number::Fault(Fault {
             at: MOST_BYTES,
@@ -310,7 +336,9 @@ pub fn opening(list: &[u8]) -> Number {
 }
 
 /// Reads the end, which stands where the next tag would and is followed by nothing.
-pub fn closing(list: &[u8], at: usize) -> Passed {
+pub fn closing(list: &[u8], at: usize) -> Passed
+    ensures { λ r. ⌜ ofPassed r ≡ closingFrom (now (list .entry)) at ⌝ }
+{
     match read_small(list, at, Item::End, 0, 0) {
         Small::Read(end) => {
             let next = end.next;

@@ -1,4 +1,4 @@
-// What a program that replays a list says of it, on standard output.
+// What a program that replays a list says of it, on standard output. No contract can say what is written.
 use crate::Fault;
 use crate::Item;
 use crate::MOST_BYTES;

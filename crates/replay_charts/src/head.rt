@@ -2,8 +2,10 @@
 use lists::Fault;
 use lists::Item;
 use lists::Small;
+ghost use mathlib.Core.Path.{_≡_};
+ghost use Rattle.lists.specs.Found.{ofSmall};
 ghost use Rattle.lists.specs.Taken.{AtMost};
-ghost use Rattle.replay_charts.specs.Head.{Within};
+ghost use Rattle.replay_charts.specs.Head.{ofHeaded, sizeFrom, headFrom, Within};
 
 // The tag of a chart case.
 const CHART_CASE: u16 = 2;
@@ -29,7 +31,8 @@ pub enum Headed {
 
 // Reads the size, which the kind bounds.
 fn read_size(list: &[u8], at: usize, kind: u16) -> Small
-    ensures { λ r. ⌜ AtMost 25 r ⌝ }
+    ensures { λ r. ⌜ ofSmall r ≡ sizeFrom (now (list .entry)) kind at ⌝ }
+    ensures most { λ r. ⌜ AtMost 25 r ⌝ }
 {
     if kind == 1 {
         return lists::read_small(list, at, Item::Size, 1, 1);
@@ -39,7 +42,8 @@ fn read_size(list: &[u8], at: usize, kind: u16) -> Small
 
 /// Reads the head of the case that begins at the place `at`.
 pub fn read_head(list: &[u8], at: usize) -> Headed
-    ensures { λ r. ⌜ Within r ⌝ }
+    ensures { λ r. ⌜ ofHeaded r ≡ headFrom (now (list .entry)) at ⌝ }
+    ensures within { λ r. ⌜ Within r ⌝ }
 {
     let tag = match lists::read_small(list, at, Item::Tag, CHART_CASE, CHART_CASE) {
         Small::Read(tag) => tag,

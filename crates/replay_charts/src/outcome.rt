@@ -3,8 +3,9 @@ use lists::Apart;
 use lists::Parting;
 ghost use mathlib.Core.Path.{_≡_};
 ghost use lib.ListN.{length};
+ghost use Rattle.laws.specs.Bools.{one};
 ghost use Rattle.lists.specs.Apart.{allBits};
-ghost use Rattle.replay_charts.specs.Findings.{OnlyIf, AllSame};
+ghost use Rattle.replay_charts.specs.Findings.{earliest, numberHeld, RowHeld};
 
 /// What of a case may be otherwise than right.
 pub enum What {
@@ -38,7 +39,7 @@ pub enum Outcome {
 
 /// The first of two findings.
 pub fn first(earlier: Outcome, later: Outcome) -> Outcome
-    ensures { λ r. ⌜ OnlyIf (AllSame earlier later) r ⌝ }
+    ensures { λ r. ⌜ r ≡ earliest earlier later ⌝ }
 {
     match earlier {
         Outcome::Same => later,
@@ -48,7 +49,7 @@ pub fn first(earlier: Outcome, later: Outcome) -> Outcome
 
 /// Holds one number to the right one, and says it of the place `at`.
 pub fn number_at(what: What, at: usize, ours: u64, right: u64) -> Outcome
-    ensures { λ r. ⌜ OnlyIf (ours ≡ right) r ⌝ }
+    ensures { λ r. ⌜ r ≡ numberHeld what at ours right ⌝ }
 {
     if ours == right {
         return Outcome::Same;
@@ -61,20 +62,22 @@ pub fn number_at(what: What, at: usize, ours: u64, right: u64) -> Outcome
 
 /// Holds one number to the right one.
 pub fn number(what: What, ours: u64, right: u64) -> Outcome
-    ensures { λ r. ⌜ OnlyIf (ours ≡ right) r ⌝ }
+    ensures { λ r. ⌜ r ≡ numberHeld what 0 ours right ⌝ }
 {
     number_at(what, 0, ours, right)
 }
 
 /// Holds a yes or no to the right one.
-pub fn yes(what: What, ours: bool, right: bool) -> Outcome {
+pub fn yes(what: What, ours: bool, right: bool) -> Outcome
+    ensures { λ r. ⌜ r ≡ numberHeld what 0 (one ours) (one right) ⌝ }
+{
     number(what, ours as u64, right as u64)
 }
 
 /// Holds our f64 to the right ones, by their bits.
 pub fn floats(what: What, ours: &[f64], right: &[f64]) -> Outcome
     requires { ⌜ length (now ours) ≡ length (now right) ⌝ }
-    ensures { λ r. ⌜ OnlyIf (allBits (now (ours .entry)) ≡ allBits (now (right .entry))) r ⌝ }
+    ensures { λ r. ⌜ RowHeld what (allBits (now (ours .entry))) (allBits (now (right .entry))) r ⌝ }
 {
     match lists::floats_apart(ours, right) {
         Apart::Nowhere => Outcome::Same,
@@ -85,7 +88,7 @@ pub fn floats(what: What, ours: &[f64], right: &[f64]) -> Outcome
 /// Holds our marks to the right ones.
 pub fn marks(what: What, ours: &[u16], right: &[u16]) -> Outcome
     requires { ⌜ length (now ours) ≡ length (now right) ⌝ }
-    ensures { λ r. ⌜ OnlyIf (now (ours .entry) ≡ now (right .entry)) r ⌝ }
+    ensures { λ r. ⌜ RowHeld what (now (ours .entry)) (now (right .entry)) r ⌝ }
 {
     match lists::marks_apart(ours, right) {
         Apart::Nowhere => Outcome::Same,

@@ -1,8 +1,10 @@
-// The line of a case that is otherwise than stored.
+// The line of a case that is otherwise than stored. No contract can say what is written.
 use crate::outcome::Outcome;
 use crate::outcome::What;
 use lists::Parting;
+ghost use mathlib.Core.Path.{_≡_};
 ghost use Prim.Native.Nat.{_≤_};
+ghost use Rattle.replay_charts.specs.Findings.{differing};
 
 fn begin(k: u64, name: &[u8]) {
     lists::say(b"case ", k, b": ");
@@ -55,6 +57,7 @@ fn line(k: u64, what: What, p: Parting) {
 
 /// Writes the line of a case that does not come to what it ought to, and gives 1; for any other 0.
 pub fn tell(k: u64, outcome: Outcome) -> u64
+    ensures { λ r. ⌜ r ≡ differing outcome ⌝ }
     ensures { λ r. ⌜ r ≤ 1 ⌝ }
 {
     match outcome {

@@ -20,7 +20,7 @@ returns c = search needs
 fill-head-requires : tie.Need-fill-head-requires
 fill-head-requires c κs =
     let s = c .before .before in
-    subst Within (s .head .given .1) (s .before .before .read-head .ensures) .0
+    subst Within (s .head .given .1) (s .before .before .read-head .ensures .1) .0
 
 enum-known-made : tie.Need-enum-known-made
 enum-known-made c = search needs
@@ -28,7 +28,7 @@ enum-known-made c = search needs
 replay-answer-requires : tie.Need-replay-answer-requires
 replay-answer-requires c κs =
     let s = c .before .before .before .before .before .before .before .before .before in
-    subst Within (s .head .given .1) (s .before .before .read-head .ensures) .1
+    subst Within (s .head .given .1) (s .before .before .read-head .ensures .1) .1
 
 enum-known-fault-2 : tie.Need-enum-known-fault-2
 enum-known-fault-2 c = search needs

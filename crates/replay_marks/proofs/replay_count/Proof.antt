@@ -33,7 +33,7 @@ part-values-start c = search needs
 part-values-end : tie.Need-part-values-end
 part-values-end c =
     let s = c .before .before in
-    omega (arith, subst (AtMost 4096) (s .count .given .1) (s .before .before .read-small .ensures))
+    omega (arith, subst (AtMost 4096) (s .count .given .1) (s .before .before .read-small .ensures .1))
 
 sub-replay-values-2 : tie.Need-sub-replay-values-2
 sub-replay-values-2 c = search needs
@@ -44,7 +44,7 @@ part-marks-start c = search needs
 part-marks-end : tie.Need-part-marks-end
 part-marks-end c =
     let s = c .before .before .before in
-    omega (arith, subst (AtMost 4096) (s .count .given .1) (s .before .before .read-small .ensures))
+    omega (arith, subst (AtMost 4096) (s .count .given .1) (s .before .before .read-small .ensures .1))
 
 sub-replay-values-3 : tie.Need-sub-replay-values-3
 sub-replay-values-3 c = search needs
@@ -55,7 +55,7 @@ part-right-start c = search needs
 part-right-end : tie.Need-part-right-end
 part-right-end c =
     let s = c .before .before .before .before in
-    omega (arith, subst (AtMost 4096) (s .count .given .1) (s .before .before .read-small .ensures))
+    omega (arith, subst (AtMost 4096) (s .count .given .1) (s .before .before .read-small .ensures .1))
 
 replay-values-requires : tie.Need-replay-values-requires
 replay-values-requires c κs = search needs

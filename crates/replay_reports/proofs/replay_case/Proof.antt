@@ -9,10 +9,10 @@ use Rattle.replay_reports.proofs.replay_case.Statement.{statement}
 use Rattle.replay_reports.proofs.replay_case.Tie as tie
 
 flow-in : (c : tie.After-flow) → (c .flow .given .0 .0 .from ≤ c .flow .given .0 .0 .to) × (c .flow .given .0 .0 .to ≤ length (c .before .before .before .before .before .before .before .before .args .list .now))
-flow-in c = subst (Within (length (c .before .before .before .before .before .before .before .before .args .list .now))) (c .flow .given .1) (c .before .before .read-bytes .ensures)
+flow-in c = subst (Within (length (c .before .before .before .before .before .before .before .before .args .list .now))) (c .flow .given .1) (c .before .before .read-bytes .ensures .1)
 
 text-in : (c : tie.After-text) → (c .text .given .0 .0 .from ≤ c .text .given .0 .0 .to) × (c .text .given .0 .0 .to ≤ length (c .before .before .before .before .before .before .before .before .before .before .before .before .args .list .now))
-text-in c = subst (Within (length (c .before .before .before .before .before .before .before .before .before .before .before .before .args .list .now))) (c .text .given .1) (c .before .before .read-bytes2 .ensures)
+text-in c = subst (Within (length (c .before .before .before .before .before .before .before .before .before .before .before .before .args .list .now))) (c .text .given .1) (c .before .before .read-bytes2 .ensures .1)
 
 read-small-requires : tie.Need-read-small-requires
 read-small-requires c κs = search needs

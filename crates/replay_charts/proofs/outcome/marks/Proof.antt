@@ -1,5 +1,5 @@
 -- `outcome::marks` meets its contract. Assumes nothing.
-use mathlib.Core.Path.{subst}
+use mathlib.Core.Path.{refl, subst}
 use borrow.Author.Needs.{needs}
 use Rattle.lists.specs.Apart.{Compared}
 use Rattle.replay_charts.proofs.outcome.marks.Statement.{statement}
@@ -18,7 +18,7 @@ returns : tie.Need-returns
 returns c = subst (Compared _ _) (c .enum-told .given .1) (c .before .before .marks-apart .ensures)
 
 returns-2 : tie.Need-returns-2
-returns-2 c = search needs
+returns-2 c = (refl, subst (Compared _ _) (c .before .parting .given .1) (c .before .before .before .marks-apart .ensures))
 
 pub marks-spec : {M : Type 1} → statement M
 marks-spec =
