@@ -1,9 +1,9 @@
--- 01's three observations of 0.1, and a refusal 8 and a 7, computed. Floats are compared by their bits.
+-- 01's three observations of 0.1, a chart of kind 2 and one of kind 3, and a refusal 8 and a 7, computed. Floats are compared by their bits.
 -- Assumes nothing.
 use mathlib.Core.Path.{_≡_, refl}
 use mathlib.Core.Bool.{Bool, true, not, _&&_}
 use mathlib.Core.List.{List, [], _∷_}
-use Prim.Native.Nat.{ℕ}
+use Prim.Native.Nat.{ℕ, _+_, _^_}
 use lib.Dec.{eqb}
 use lib.Ieee.{Float, binary64, ofBits, toBits, ofInt, round, add, sub, mul, div, lt, le}
 use Rattle.laws.specs.Bools.{every, count}
@@ -11,6 +11,7 @@ use Rattle.laws.specs.Bits.{hasBit, fromBits}
 use Rattle.laws.specs.Lists.{tabulateFrom}
 use Rattle.laws.specs.Refusals.{firstOf}
 use Rattle.sets.specs.Sets.{bitOf, tests, has, setOf}
+use Rattle.root.specs.Root.{rootOf}
 use Rattle.rules.specs.declared.Limits.{Limits}
 use Rattle.floats.specs.Finite.{finite, allFinite}
 use Rattle.rules.specs.Finite.{finiteLimits}
@@ -18,10 +19,10 @@ use Rattle.rules.specs.Lines.{oneSigma, twoSigma, linesOf}
 use Rattle.rules.specs.Tests.{steps, alternating, window, shows}
 use Rattle.rules.specs.Marking.{newestFirst, stands, marksAt, marksOf}
 use Rattle.charts.specs.declared.Chart.{Chart}
-use Rattle.charts.specs.Arith.{meanOf, signCleared, movingOf}
+use Rattle.charts.specs.Arith.{meanOf, rangeOf, orNan, deviationOf, signCleared, movingOf}
 use Rattle.charts.specs.Factors.{decimal, factorOf}
 use Rattle.charts.specs.Records.{byKind, sizeWrong, ownWrong, recordWrong}
-use Rattle.charts.specs.Series.{bySeries, individualAt, pointAt, pointsIn, seriesOf}
+use Rattle.charts.specs.Series.{bySeries, individualAt, rangePoint, deviationPoint, pointAt, pointsIn, seriesOf}
 use Rattle.charts.specs.Limits.{factorFor, mainLimits, lowerLimit, dispersionLimits, limitsFrom, measuredOf, measured}
 use Rattle.charts.specs.Evaluating.{Answer, answerRefused, tooFew, noRoom, seriesMarks, numberOf, answerFor, evaluateOf}
 use Rattle.charts.specs.Sigma.{sigmaNumber, unlessRefused, sigmaFrom, sigmaHatOf, dfOf}
@@ -89,6 +90,83 @@ tenths-sigma = refl
 pub tenths-df : eqb (bits (dfOf (individuals 3))) (bits (decimal 2 124)) ≡ true
 unfolding dfOf byKind toBits ofInt round mul
 tenths-df = refl
+
+-- ---- two subgroups with the means -2 and 2, as kind 2 and as kind 3, set shewhart
+
+-- so many values to a subgroup
+abbrev pub subgroups : ℕ → ℕ → Chart
+subgroups kind n = record { kind = kind; size = n; count = 2; set = record { mask = 1 } }
+
+abbrev pub limitsAre : ℕ → ℕ → ℕ → Limits → Bool
+limitsAre u c l x = eqb (bits (x .ucl)) u && eqb (bits (x .cl)) c && eqb (bits (x .lcl)) l
+
+-- a number below zero: its sign is bit 63
+abbrev pub negated : ℕ → ℕ
+negated n = n + 2 ^ 63
+
+-- 1.0
+abbrev pub one : ℕ
+one = 0x3ff0000000000000
+
+-- Kind 2: -3.0, -1.0 and 2.0, 2.0. The ranges are 2 and 0. The mean of the means is 0, that of the ranges 1, so the limits are the factors of
+-- size 2 themselves: 0 ± 1.880 (A2), and 3.267 (D4), 1, 0.000 (D3).
+abbrev pub pairs : List Float
+pairs = ofBits binary64 0xc008000000000000 ∷ ofBits binary64 0xbff0000000000000 ∷ ofBits binary64 0x4000000000000000 ∷ ofBits binary64 0x4000000000000000 ∷ []
+
+pub pairs-limits : (limitsAre (bits (decimal 3 1880)) 0 (negated (bits (decimal 3 1880))) (measured (subgroups 2 2) pairs .main)
+    && limitsAre (bits (decimal 3 3267)) one 0 (measured (subgroups 2 2) pairs .dispersion)) ≡ true
+unfolding measured measuredOf limitsFrom mainLimits dispersionLimits lowerLimit factorFor factorOf
+    seriesOf tabulateFrom pointAt pointsIn byKind bySeries rangePoint meanOf rangeOf
+    ofBits toBits ofInt round add sub mul div lt
+pairs-limits = refl
+
+-- 2 is more than 1.880, so both means get bit 0; the ranges lie within
+pub pairs-marks : seriesMarks (subgroups 2 2) 0 pairs ≡ (1 ∷ 1 ∷ [])
+unfolding measured measuredOf limitsFrom mainLimits dispersionLimits lowerLimit factorFor factorOf
+    seriesOf tabulateFrom pointAt pointsIn byKind bySeries rangePoint meanOf rangeOf
+    seriesMarks marksOf marksAt linesOf oneSigma twoSigma setOf fromBits has hasBit tests bitOf
+    newestFirst stands window shows steps alternating every count
+    ofBits ofInt round add sub mul div lt le
+pairs-marks = refl
+
+pub pairs-ranges : seriesMarks (subgroups 2 2) 1 pairs ≡ (0 ∷ 0 ∷ [])
+unfolding measured measuredOf limitsFrom mainLimits dispersionLimits lowerLimit factorFor factorOf
+    seriesOf tabulateFrom pointAt pointsIn byKind bySeries rangePoint meanOf rangeOf
+    seriesMarks marksOf marksAt linesOf oneSigma twoSigma setOf fromBits has hasBit tests bitOf
+    newestFirst stands window shows steps alternating every count
+    ofBits ofInt round add sub mul div lt le
+pairs-ranges = refl
+
+-- Kind 3: -4.0, -2.0, 0.0 and three of 2.0. The squares of the first are 4, 0 and 4, and 8 / 2 has the root 2; the second's deviation is 0. The
+-- mean of the means is 0, that of the deviations 1, so the limits are the factors of size 3: 0 ± 1.954 (A3), and 2.568 (B4), 1, 0.000 (B3).
+abbrev pub threes : List Float
+threes =
+    ofBits binary64 0xc010000000000000 ∷ ofBits binary64 0xc000000000000000 ∷ ofBits binary64 0
+    ∷ ofBits binary64 0x4000000000000000 ∷ ofBits binary64 0x4000000000000000 ∷ ofBits binary64 0x4000000000000000 ∷ []
+
+pub threes-limits : (limitsAre (bits (decimal 3 1954)) 0 (negated (bits (decimal 3 1954))) (measured (subgroups 3 3) threes .main)
+    && limitsAre (bits (decimal 3 2568)) one 0 (measured (subgroups 3 3) threes .dispersion)) ≡ true
+unfolding measured measuredOf limitsFrom mainLimits dispersionLimits lowerLimit factorFor factorOf
+    seriesOf tabulateFrom pointAt pointsIn byKind bySeries deviationPoint meanOf deviationOf orNan rootOf
+    ofBits toBits ofInt round add sub mul div lt
+threes-limits = refl
+
+-- 2 is more than 1.954, so both means get bit 0; the deviations lie within
+pub threes-marks : seriesMarks (subgroups 3 3) 0 threes ≡ (1 ∷ 1 ∷ [])
+unfolding measured measuredOf limitsFrom mainLimits dispersionLimits lowerLimit factorFor factorOf
+    seriesOf tabulateFrom pointAt pointsIn byKind bySeries deviationPoint meanOf deviationOf orNan rootOf
+    seriesMarks marksOf marksAt linesOf oneSigma twoSigma setOf fromBits has hasBit tests bitOf
+    newestFirst stands window shows steps alternating every count
+    ofBits ofInt round add sub mul div lt le
+threes-marks = refl
+
+pub threes-deviations : seriesMarks (subgroups 3 3) 1 threes ≡ (0 ∷ 0 ∷ [])
+unfolding measured measuredOf limitsFrom mainLimits dispersionLimits lowerLimit factorFor factorOf
+    seriesOf tabulateFrom pointAt pointsIn byKind bySeries deviationPoint meanOf deviationOf orNan rootOf
+    seriesMarks marksOf marksAt linesOf oneSigma twoSigma setOf fromBits has hasBit tests bitOf
+    newestFirst stands window shows steps alternating every count
+    ofBits ofInt round add sub mul div lt le
+threes-deviations = refl
 
 -- ---- one observation is too few (8), which says that no mark stands; the range of two may be too large (7)
 

@@ -7,7 +7,7 @@ use mathlib.Core.Path.{_≡_, refl, sym, ap, _∙_}
 use mathlib.Core.List.{List, [], _∷_}
 use lib.ListN.{length, drop, getD, set, length-drop}
 use lib.Seq.{drop-drop, getD-drop}
-use lib.Bits.{bitAnd, bitOr, and-mask, or-shifted-r}
+use lib.Bits.{bitAnd, bitOr, and-le-r, or-lt, and-mask, or-shifted-r}
 use Rattle.laws.specs.Front.{atFront}
 use Rattle.laws.proofs.Filling.{Filling, filling-starts, filling-length, filling-goes-on, filling-ends}
 use Rattle.groups.specs.Groups.{groups}
@@ -29,8 +29,9 @@ top-bit x =
     let h : x % 128 < 128 = omega arith in
     ap (λ (y : ℕ). bitOr y 128) (and-mask x 7) ∙ or-shifted-r 1 7 (x % 128) h
 
-pub top-bit-fits : (x : ℕ) → bitOr (bitAnd x 127) 128 < 256
-top-bit-fits x = omega (arith, top-bit x)
+-- seven bits with whatever the code puts on top of them fit a byte
+pub group-fits : (x top : ℕ) → top < 256 → bitOr (bitAnd x 127) top < 256
+group-fits x top h = or-lt 8 (bitAnd x 127) top (omega (arith, and-le-r x 127)) h
 
 pub record Writes (x : ℕ) (old out : List ℕ) (rest i : ℕ) : Type 0 where
   pub filling : Filling (groups x) old out i

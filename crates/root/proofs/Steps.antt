@@ -2,7 +2,7 @@
 use mathlib.Core.Path.{_≡_, sym, ap, _∙_}
 use mathlib.Core.Bool.{false}
 use Prim.Native.Nat.{ℕ, suc, _+_, _-_, _*_, _/_, _%_, _^_, _≤_, _<_}
-use native.Mathlib.Nat.{mul-assoc, mul-one, mod-eq-of-lt, le-trans, lt-of-lt-of-le, lt-of-not-le, not-le-of-lt}
+use native.Mathlib.Nat.{mul-assoc, mul-one, mod-eq-of-lt, mul-le-mul-left, le-trans, lt-of-lt-of-le, lt-of-le-of-lt, lt-of-not-le, not-le-of-lt}
 use native.Mathlib.Omega.{arith}
 use lib.Bits.{bitAnd, bitOr, and-mask, or-shifted-r}
 use lib.Count.{leadingZeros, leading-top}
@@ -11,7 +11,8 @@ use lib.Pow.{pow-add, pow-mono}
 use lib.Ieee.{binary64, ofBits}
 use Rattle.root.specs.Root.{scaled}
 use Rattle.root.specs.Steps.{infinity, Places, RootBits}
-use Rattle.root.proofs.Nearest.{rounded, few, rounded-least, rounded-most}
+use Rattle.root.proofs.Squares.{square-back}
+use Rattle.root.proofs.Nearest.{rounded, rounded-least, rounded-most}
 use Rattle.root.proofs.Scaled.{scaled-units}
 use Rattle.root.proofs.Form.{form-up}
 use Rattle.root.proofs.Halving.{lead, half, lead-most, WholeRoot, whole, found}
@@ -75,15 +76,18 @@ shifted s p = s * 2 ^ (1 - bitAnd p 1) % 2 ^ 64
 shifted-is : (s p : ℕ) → s < 2 ^ 53 → shifted s p ≡ lead s p
 shifted-is s p h = rw (and-mask p 1) (mod-eq-of-lt (omega (arith, lead-most s p h)))
 
-pub shifted-fits : (s p : ℕ) → s < 2 ^ 53 → shifted s p < 2 ^ 54
-shifted-fits s p h = rw (shifted-is s p h) (omega (arith, lead-most s p h))
+-- one digit more, and the root of that, whichever the parity
+pub shifted-fits : (s d : ℕ) → s < 2 ^ 53 → d ≤ 1 → s * 2 ^ d % 2 ^ 64 < 2 ^ 54
+shifted-fits s d h one = omega (arith, mul-le-mul-left s (pow-mono one))
+
+pub root-fits : (a R : ℕ) → a < 2 ^ 54 → R * R ≤ a * 2 ^ 54 → R + 1 < 2 ^ 64
+root-fits a R h under =
+    let big : a * 2 ^ 54 < 2 ^ 54 * 2 ^ 54 = omega arith in
+    omega (arith, square-back R (2 ^ 54) (lt-of-le-of-lt under big))
 
 module _ (b s p R : ℕ) (f : Places b s p) (w : (R * R ≤ shifted s p * 2 ^ 54) × (shifted s p * 2 ^ 54 < (R + 1) * (R + 1))) where
   root-of : WholeRoot s p R
   root-of = rw (shifted-is s p (f .most)) at w
-
-  pub root-fits : R + 1 < 2 ^ 64
-  root-fits = omega (arith, few (whole R f root-of))
 
   pub finished : RootBits b ((half p + 485) * 2 ^ 52 % 2 ^ 64 + rounded R)
   finished =

@@ -54,6 +54,10 @@ module _ (set : ℕ) (right : List ℕ) (r : Said) (t : ℕ) (found : Entries) (
         (named-other (length ms) (length right) t set z))
         ∙ ap (judged set right) (said-by Whole is)
 
+    -- for its points alone
+    pub judged-points : (length ms ≡ length right → ⊥) → (10, 0, 0, 0) ≡ judged set right r
+    judged-points z = judged-other (λ e. z (e .0))
+
     pub judged-same : length ms ≡ length right → t ≡ set → firstWrong 0 right ms ≡ judged set right r
     unfolding firstOf
     judged-same x y =

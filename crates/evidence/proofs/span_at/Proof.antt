@@ -10,10 +10,10 @@ returns : tie.Need-returns
 returns c = (sym (no-span (c .before .before .args .series .now) (c .before .before .args .limits) (c .before .before .args .at) (c .before .before .args .bit) (past-the-series (c .before .before .args .series .now) (c .before .before .args .limits) (c .before .before .args .at) (c .before .before .args .bit) (c .if1 .taken))), search needs, search needs)
 
 returns-2 : tie.Need-returns-2
-returns-2 c = (sym (no-span (c .before .before .before .args .series .now) (c .before .before .before .args .limits) (c .before .before .before .args .at) (c .before .before .before .args .bit) (no-such-test (c .before .before .before .args .series .now) (c .before .before .before .args .limits) (c .before .before .before .args .at) (c .before .before .before .args .bit) (c .if2 .taken))), search needs, search needs)
+returns-2 c = (sym (no-span (c .before .before .before .args .series .now) (c .before .before .before .args .limits) (c .before .before .before .args .at) (c .before .before .before .args .bit) (no-such-test (c .before .before .before .args .series .now) (c .before .before .before .args .limits) (c .before .before .before .args .at) (c .before .before .before .args .bit) (omega (arith, c .if2 .taken)))), search needs, search needs)
 
 window-of-requires : tie.Need-window-of-requires
-window-of-requires c κs = search needs
+window-of-requires c κs = omega arith
 
 add-end : tie.Need-add-end
 add-end c = search needs

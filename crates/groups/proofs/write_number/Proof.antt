@@ -6,7 +6,7 @@ use borrow.Author.Tests.{lt-leb, le-leb}
 use lib.ListN.{length, length-set}
 use Rattle.groups.specs.declared.Writing.the-variants.{Bytes}
 use Rattle.groups.specs.Groups.{groups}
-use Rattle.groups.proofs.WriteLoop.{Writes, top-bit-fits, writes-starts, writes-length, writes-room, writes-on, writes-all, writes-ends}
+use Rattle.groups.proofs.WriteLoop.{Writes, group-fits, writes-starts, writes-length, writes-room, writes-on, writes-all, writes-ends}
 use Rattle.groups.proofs.write_number.Statement.{statement}
 use Rattle.groups.proofs.write_number.Tie as tie
 
@@ -28,7 +28,7 @@ loop-holds : tie.Need-loop-holds Inv-loop μ-loop
 loop-holds c = writes-starts (c .before .before .before .args .x) (c .before .before .before .args .out .now) (omega (arith, c .before .count-groups .ensures))
 
 cast-out : tie.Need-cast-out Inv-loop μ-loop
-cast-out c = record { fits = top-bit-fits (c .before .loop .rest) }
+cast-out c = record { fits = group-fits (c .before .loop .rest) _ (omega arith) }
 
 slice-write-out : tie.Need-slice-write-out Inv-loop μ-loop
 slice-write-out c = writes-room (c .before .loop .inv)

@@ -1,6 +1,6 @@
 -- `report_chart` meets its contract: refused for its values or by evaluating, or told. Assumes nothing.
 use mathlib.Core.Path.{_≡_, sym, ap, _∙_}
-use mathlib.Core.Bool.{true}
+use mathlib.Core.Bool.{true, false, not}
 use mathlib.Core.List.{List}
 use Prim.Native.Nat.{ℕ, _-_}
 use native.Mathlib.Omega.{arith}
@@ -42,7 +42,9 @@ abbrev whole : (c : tie.Else1) → length (values c) ≡ size (chart c)
 whole c = c .before .before .before .before .pre .1
 
 finite : (c : tie.Else1) → allFinite (values c) ≡ true
-finite c = sym (c .before .all-finite .ensures) ∙ not-false _ (c .if1 .left)
+finite c =
+    let passed : not (c .before .all-finite .result) ≡ false = c .if1 .left in
+    sym (c .before .all-finite .ensures) ∙ not-false _ passed
 
 -- ---- what evaluating answered
 

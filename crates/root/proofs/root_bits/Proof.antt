@@ -10,18 +10,18 @@ place-requires : tie.Need-place-requires
 place-requires c κs = search needs
 
 sub-a : tie.Need-sub-a
-sub-a c = and-le-r (c .place .result .p) 1
+sub-a c = search (needs, and-le-r)
 
 shl-a : tie.Need-shl-a
 shl-a c = search needs
 
 digits-requires : tie.Need-digits-requires
-digits-requires c κs = shifted-fits (c .place .result .s) (c .place .result .p) (c .place .ensures .most)
+digits-requires c κs = shifted-fits (c .place .result .s) _ (c .place .ensures .most) (omega arith)
 
 add-m : tie.Need-add-m
 add-m c =
     let at = c .before .place in
-    omega (arith, root-fits (c .before .before .args .b) (at .result .s) (at .result .p) (c .digits .result) (at .ensures) (c .digits .ensures))
+    omega (arith, root-fits _ (c .digits .result) (shifted-fits (at .result .s) _ (at .ensures .most) (omega arith)) (c .digits .ensures .0))
 
 sub-result : tie.Need-sub-result
 sub-result c = search needs

@@ -1,5 +1,5 @@
 -- `rules::answer` meets its contract: its tests are those of the definition, in the same order. Assumes nothing.
-use mathlib.Core.Path.{_≡_, sym, _∙_}
+use mathlib.Core.Path.{_≡_, refl, sym, _∙_}
 use mathlib.Core.Bool.{true, false}
 use borrow.Author.Tests.{lt-ltb, le-ltb, not-true, not-false}
 use Rattle.laws.specs.Refusals.{firstOf}
@@ -12,7 +12,7 @@ use Rattle.rules.proofs.answer.Tie as tie
 
 returns : tie.Need-returns
 unfolding answerOf firstOf
-returns c = simp (lt-ltb _ _ (c .if1 .taken))
+returns c = rw (lt-ltb _ _ (c .if1 .taken)) refl
 
 returns-2 : tie.Need-returns-2
 unfolding answerOf firstOf

@@ -1,5 +1,8 @@
 -- `twin::read_values` meets its contract, refusal by refusal. Assumes nothing.
 use mathlib.Core.Path.{refl}
+use Prim.Native.Nat.{_%_}
+use native.Mathlib.Omega.{arith}
+use lib.ListN.{length}
 use borrow.Author.Tests.{lt-ltb, le-ltb, eq-eqb, ne-eqb}
 use Rattle.laws.specs.Refusals.{firstOf}
 use Rattle.twin.specs.Steps.{ahead, valuesAfter}
@@ -9,7 +12,7 @@ use Rattle.twin.proofs.read_values.Tie as tie
 
 returns : tie.Need-returns
 unfolding ahead valuesAfter firstOf
-returns c = simp (ne-eqb _ _ (c .if1 .taken)) (refl, refl)
+returns c = simp (ne-eqb (length (c .before .before .before .args .b .now) % 8) 0 (λ e. omega arith)) (refl, refl)
 
 returns-2 : tie.Need-returns-2
 unfolding ahead valuesAfter firstOf

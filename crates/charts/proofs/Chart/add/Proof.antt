@@ -1,11 +1,11 @@
 -- `Chart::add` meets its contract: its tests are those of the definition, and the sample goes behind the others. Assumes nothing.
-use mathlib.Core.Path.{refl, sym, ap, _∙_}
-use mathlib.Core.Bool.{not}
+use mathlib.Core.Path.{_≡_, refl, sym, ap, _∙_}
+use mathlib.Core.Bool.{true, not}
 use native.Mathlib.Omega.{arith}
 use borrow.Author.Tests.{lt-ltb, le-ltb, le-leb, lt-leb, eq-eqb, ne-eqb}
 use lib.ListN.{length}
 use Rattle.laws.proofs.Refusals.{passed, refused, none-applies}
-use Rattle.charts.specs.Records.{addOf, valuesAfter}
+use Rattle.charts.specs.Records.{recordWrong, addOf, valuesAfter}
 use Rattle.charts.proofs.Cases.{told, told-not}
 use Rattle.charts.proofs.Held.{held}
 use Rattle.charts.proofs.Appending.{appended, lent-length, kept-length}
@@ -18,7 +18,10 @@ record-wrong-requires c κs = search needs
 
 returns : tie.Need-returns
 unfolding addOf valuesAfter
-returns c = (sym (refused _ _ _ _ (told (c .before .record-wrong .ensures) (c .if1 .taken))), refl)
+returns c =
+    let args = c .before .before .before .before .args in
+    let wrong : recordWrong (args .self) (length (args .values .now)) ≡ true = cc in
+    (sym (refused _ _ _ _ wrong), refl)
 
 returns-2 : tie.Need-returns-2
 unfolding addOf valuesAfter

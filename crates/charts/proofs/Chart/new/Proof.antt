@@ -1,8 +1,9 @@
 -- `Chart::new` meets its contract: its tests are those of the definition, in the same order. Assumes nothing.
-use mathlib.Core.Path.{sym, ap, _∙_}
+use mathlib.Core.Path.{_≡_, sym, ap, _∙_}
+use mathlib.Core.Bool.{true}
 use Prim.Native.Nat.{ℕ}
 use Rattle.laws.proofs.Refusals.{passed, refused, none-applies}
-use Rattle.charts.specs.Records.{newOf}
+use Rattle.charts.specs.Records.{kindWrong, newOf}
 use Rattle.charts.proofs.Cases.{told}
 use borrow.Author.Needs.{needs}
 use Rattle.charts.proofs.Chart.new.Statement.{statement}
@@ -13,7 +14,9 @@ kind-wrong-requires c κs = search needs
 
 returns : tie.Need-returns
 unfolding newOf
-returns c = sym (refused _ _ _ _ (told (c .before .kind-wrong .ensures) (c .if1 .taken)))
+returns c =
+    let wrong : kindWrong (c .before .before .args .kind) ≡ true = cc in
+    sym (refused _ _ _ _ wrong)
 
 size-wrong-requires : tie.Need-size-wrong-requires
 size-wrong-requires c κs = search needs

@@ -1,8 +1,9 @@
 -- `Chart::with_set` meets its contract: its tests are those of the definition, in the same order. Assumes nothing.
-use mathlib.Core.Path.{sym, _∙_}
+use mathlib.Core.Path.{_≡_, sym, _∙_}
+use mathlib.Core.Bool.{true}
 use borrow.Author.Tests.{lt-ltb, le-ltb}
 use Rattle.laws.proofs.Refusals.{passed, refused, none-applies}
-use Rattle.charts.specs.Records.{withSetOf}
+use Rattle.charts.specs.Records.{ownWrong, withSetOf}
 use Rattle.charts.proofs.Cases.{told}
 use borrow.Author.Needs.{needs}
 use Rattle.charts.proofs.Chart.with_set.Statement.{statement}
@@ -13,7 +14,9 @@ own-wrong-requires c κs = search needs
 
 returns : tie.Need-returns
 unfolding withSetOf
-returns c = sym (refused _ _ _ _ (told (c .before .own-wrong .ensures) (c .if1 .taken)))
+returns c =
+    let wrong : ownWrong (c .before .before .args .self) ≡ true = cc in
+    sym (refused _ _ _ _ wrong)
 
 returns-2 : tie.Need-returns-2
 unfolding withSetOf

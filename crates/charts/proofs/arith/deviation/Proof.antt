@@ -1,4 +1,5 @@
 -- `arith::deviation` meets its contract, by what each step says. Assumes nothing.
+use mathlib.Core.Path.{refl}
 use Rattle.charts.specs.Arith.{deviationOf}
 use borrow.Author.Needs.{needs}
 use Rattle.charts.proofs.arith.deviation.Statement.{statement}
@@ -30,7 +31,7 @@ returns c =
     let nearest-u64-to-f64 = c .before .before .nearest-u64-to-f64 in
     let squares = c .before .before .before .squares in
     let mean = c .before .before .before .before .mean in
-    rw (or-nan .ensures, root .ensures .1, squares .ensures, mean .ensures, nearest-u64-to-f64 .ensures)
+    rw (or-nan .ensures, root .ensures .1, squares .ensures, mean .ensures, nearest-u64-to-f64 .ensures) refl
 
 pub deviation-spec : {M : Type 1} → statement M
 deviation-spec =

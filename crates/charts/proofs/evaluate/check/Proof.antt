@@ -1,11 +1,13 @@
 -- `evaluate::check` meets its contract: its tests are those of the definition, in the same order. Assumes nothing.
-use mathlib.Core.Path.{sym, ap, _∙_}
+use mathlib.Core.Path.{_≡_, sym, ap, _∙_}
+use mathlib.Core.Bool.{true}
 use Prim.Native.Nat.{ℕ, _*_}
 use native.Mathlib.Nat.{sub-zero}
 use native.Mathlib.Omega.{arith}
 use lib.ListN.{length, take}
 use Rattle.laws.proofs.Refusals.{passed, refused, none-applies}
 use Rattle.floats.specs.Finite.{allFinite}
+use Rattle.charts.specs.Records.{recordWrong}
 use Rattle.charts.proofs.Cases.{told, told-not}
 use Rattle.charts.proofs.Held.{held}
 use Rattle.charts.proofs.Outcomes.{some-held}
@@ -17,7 +19,10 @@ record-wrong-requires : tie.Need-record-wrong-requires
 record-wrong-requires c κs = search needs
 
 returns : tie.Need-returns
-returns c = sym (refused _ _ _ _ (told (c .before .record-wrong .ensures) (c .if1 .taken)))
+returns c =
+    let args = c .before .before .before .args in
+    let wrong : recordWrong (args .c) (length (args .values .now)) ≡ true = cc in
+    sym (refused _ _ _ _ wrong)
 
 too-few-requires : tie.Need-too-few-requires
 too-few-requires c κs = search needs

@@ -1,4 +1,6 @@
 -- `evaluate::mark_both` meets its contract. Assumes nothing.
+use mathlib.Core.Path.{ap₂}
+use Prim.Native.Nat.{ℕ, _+_}
 use borrow.Author.Needs.{needs}
 use Rattle.charts.proofs.evaluate.mark_both.Statement.{statement}
 use Rattle.charts.proofs.evaluate.mark_both.Tie as tie
@@ -22,7 +24,10 @@ returns : tie.Need-returns
 returns c =
     let mark2 = c .before .before .mark2 in
     let mark = c .before .before .before .before .before .before .mark in
-    (rw (mark .ensures .0 .0, mark2 .ensures .0 .0), (mark .ensures .1, mark2 .ensures .1))
+    let w = c .before .before .before .before .before .before .before .before .before .before .before .before .before .before .args .w in (
+      ap₂ (λ (n k : ℕ). record { main = w .main; dispersion = w .dispersion; marks = n + k }) (mark .ensures .0 .0) (mark2 .ensures .0 .0),
+      (mark .ensures .1, mark2 .ensures .1),
+    )
 
 pub mark-both-spec : {M : Type 1} → statement M
 mark-both-spec =

@@ -1,7 +1,7 @@
 -- `sheets::checker::check_entries` meets its contract: the form, then points and set, then the marks. Assumes nothing.
 use native.Mathlib.Omega.{arith}
 use mathlib.Core.Path.{_∙_}
-use Rattle.sheets.proofs.Judging.{judged-broken, judged-other, judged-same}
+use Rattle.sheets.proofs.Judging.{judged-broken, judged-other, judged-points, judged-same}
 use borrow.Author.Needs.{needs}
 use Rattle.sheets.proofs.checker.check_entries.Statement.{statement}
 use Rattle.sheets.proofs.checker.check_entries.Tie as tie
@@ -19,9 +19,7 @@ same-length : tie.Need-same-length
 same-length c = omega arith
 
 returns : tie.Need-returns
-returns c =
-    let args = c .before .before .before .before .before .before .before .before .before .before .args in
-    judged-other (args .set) (args .right .now) _ (args .named) _ _ (c .before .before .before .before .before .read-entries .ensures) (c .before .enum-told .given .1) (λ e. c .if1 .taken (e .0))
+returns c = search (needs, judged-points)
 
 same-length-2 : tie.Need-same-length-2
 same-length-2 c = omega arith
