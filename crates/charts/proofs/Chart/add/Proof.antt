@@ -20,7 +20,7 @@ returns : tie.Need-returns
 unfolding addOf valuesAfter
 returns c =
     let args = c .before .before .before .before .args in
-    let wrong : recordWrong (args .self) (length (args .values .now)) ≡ true = cc in
+    let wrong : recordWrong (args .self) (length (args .values .now)) ≡ true = search (needs, told) in
     (sym (refused _ _ _ _ wrong), refl)
 
 returns-2 : tie.Need-returns-2

@@ -15,7 +15,7 @@ kind-wrong-requires c κs = search needs
 returns : tie.Need-returns
 unfolding newOf
 returns c =
-    let wrong : kindWrong (c .before .before .args .kind) ≡ true = cc in
+    let wrong : kindWrong (c .before .before .args .kind) ≡ true = search (needs, told) in
     sym (refused _ _ _ _ wrong)
 
 size-wrong-requires : tie.Need-size-wrong-requires

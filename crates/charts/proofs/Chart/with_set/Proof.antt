@@ -15,7 +15,7 @@ own-wrong-requires c κs = search needs
 returns : tie.Need-returns
 unfolding withSetOf
 returns c =
-    let wrong : ownWrong (c .before .before .args .self) ≡ true = cc in
+    let wrong : ownWrong (c .before .before .args .self) ≡ true = search (needs, told) in
     sym (refused _ _ _ _ wrong)
 
 returns-2 : tie.Need-returns-2

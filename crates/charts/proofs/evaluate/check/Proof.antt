@@ -21,7 +21,7 @@ record-wrong-requires c κs = search needs
 returns : tie.Need-returns
 returns c =
     let args = c .before .before .before .args in
-    let wrong : recordWrong (args .c) (length (args .values .now)) ≡ true = cc in
+    let wrong : recordWrong (args .c) (length (args .values .now)) ≡ true = search (needs, told) in
     sym (refused _ _ _ _ wrong)
 
 too-few-requires : tie.Need-too-few-requires
