@@ -1,17 +1,22 @@
--- The tests of a position by ands, ors and shifts of its fifteen codes, as `standing` makes them, are what is read off the codes.
--- Assumes nothing.
+-- The tests of a position by ands, ors and shifts of its fifteen codes, as `standing` and `pack` make them, are what is read off the
+-- codes. Assumes nothing.
 use mathlib.Core.Path.{_≡_, refl, sym, ap, ap₂, _∙_}
-use mathlib.Core.Bool.{Bool, true, false, _&&_, _||_, Bool·beq, and-true, and-assoc}
+use mathlib.Core.Bool.{Bool, true, false, _&&_, _||_, Bool·beq, and-true, and-assoc, or-false, or-self}
 use mathlib.Core.List.{List, [], _∷_}
-use Prim.Native.Nat.{ℕ, _/_, _^_}
-use native.Mathlib.Nat.{add-zero}
-use lib.Bits.{bitAnd, bitOr}
-use lib.Dec.{leb}
+use Prim.Native.Nat.{ℕ, _/_, _%_, _^_, _<_}
+use native.Mathlib.Omega.{arith}
+use lib.Bits.{bitAnd, bitOr, and-comm, and-le-r, or-lt}
+use lib.Dec.{leb, eqb}
 use Rattle.laws.specs.Bools.{every, count}
-use Rattle.laws.specs.Bits.{hasBit}
+use Rattle.laws.specs.Bits.{hasBit, fromBits}
 use Rattle.laws.proofs.Bools.{both}
 use Rattle.laws.proofs.Bits.{has-and, has-or, has-shr}
-use Rattle.rules.specs.Codes.{column, first, byTurns, some, readOff}
+use Rattle.laws.proofs.OneBit.{no-bit}
+use Rattle.laws.proofs.FirstBits.{bits-again}
+use Rattle.sets.specs.Sets.{tests, bitOf}
+use Rattle.rules.specs.Tests.{window}
+use Rattle.rules.specs.Columns.{first, byTurns, some, judge, ruleOf, readOff}
+use Rattle.rules.specs.Codes.{column, downBit, readCodes, readShort}
 
 same : (a b : Bool) → Bool·beq a b ≡ true → a ≡ b
 same true true h = refl
@@ -67,41 +72,103 @@ weave-every [] ys = refl
 weave-every (x ∷ xs) [] = and-true (x && every xs)
 weave-every (x ∷ xs) (y ∷ ys) = and-four x (every xs) y (every ys) ∙ ap (λ (b : Bool). x && (y && b)) (weave-every xs ys)
 
--- ---- a bit that is shifted down
+-- ---- the tests by their bits
 
-down : (n s : ℕ) → hasBit (n / 2 ^ s) 0 ≡ hasBit n s
-down n s = has-shr n s 0 ∙ ap (hasBit n) (add-zero s)
+-- nine and nine, one by one
+nine : {a0 a1 a2 a3 a4 a5 a6 a7 a8 b0 b1 b2 b3 b4 b5 b6 b7 b8 : Bool}
+    → a0 ≡ b0 → a1 ≡ b1 → a2 ≡ b2 → a3 ≡ b3 → a4 ≡ b4 → a5 ≡ b5 → a6 ≡ b6 → a7 ≡ b7 → a8 ≡ b8
+    → a0 ∷ a1 ∷ a2 ∷ a3 ∷ a4 ∷ a5 ∷ a6 ∷ a7 ∷ a8 ∷ [] ≡ b0 ∷ b1 ∷ b2 ∷ b3 ∷ b4 ∷ b5 ∷ b6 ∷ b7 ∷ b8 ∷ []
+nine e0 e1 e2 e3 e4 e5 e6 e7 e8 = cc
 
-either : (n s t : ℕ) → hasBit (bitOr (n / 2 ^ s) (n / 2 ^ t)) 0 ≡ (hasBit n s || hasBit n t)
-either n s t = has-or (n / 2 ^ s) (n / 2 ^ t) 0 ∙ ap₂ _||_ (down n s) (down n t)
+-- a bit of what a mask leaves; of a mask that is written out it can be seen whether it has the bit
+has-mask : (n m k : ℕ) → hasBit (bitAnd n m) k ≡ (eqb (m / 2 ^ k % 2) 1 && hasBit n k)
+unfolding hasBit
+has-mask n m k = ap (λ (x : ℕ). hasBit x k) (and-comm n m) ∙ has-and m n k
 
-both-down : (m n s t : ℕ) → hasBit (bitAnd (m / 2 ^ s) (n / 2 ^ t)) 0 ≡ (hasBit m s && hasBit n t)
-both-down m n s t = has-and (m / 2 ^ s) (n / 2 ^ t) 0 ∙ ap₂ _&&_ (down m s) (down n t)
+less : (n m : ℕ) → m < 512 → bitAnd n m < 512
+less n m h = omega (arith, and-le-r n m)
 
-module _ (c0 c1 c2 c3 c4 c5 c6 c7 c8 c9 c10 c11 c12 c13 c14 : ℕ) where
+join : (m n : ℕ) → m < 512 → n < 512 → bitOr m n < 512
+join m n h k = or-lt 9 m n h k
+
+module _ (c0 all5 all8 all9 all15 turns two four : ℕ) where
+  abbrev pairs : ℕ
+  pairs = bitOr (bitOr (bitOr (bitAnd all9 514) (bitAnd all5 1028)) (bitAnd two 4112)) (bitAnd four 8224)
+
+  abbrev folded : ℕ
+  folded = bitAnd (bitOr pairs (pairs / 2 ^ 8)) 54
+
+  abbrev sides : ℕ
+  sides = bitAnd (bitOr all8 (all8 / 2 ^ 6)) 256
+
+  abbrev packed : ℕ
+  packed = bitOr (bitOr (bitOr (bitOr (bitOr (bitAnd c0 1) folded) (bitAnd turns 8)) (bitAnd all15 64)) (bitAnd all8 128)) sides
+
+  packed-lt : packed < 512
+  packed-lt =
+      join _ sides
+      (join _ (bitAnd all8 128)
+      (join _ (bitAnd all15 64)
+      (join _ (bitAnd turns 8)
+      (join (bitAnd c0 1) folded (less c0 1 (omega arith)) (less (bitOr pairs (pairs / 2 ^ 8)) 54 (omega arith)))
+      (less turns 8 (omega arith)))
+      (less all15 64 (omega arith)))
+      (less all8 128 (omega arith)))
+      (less (bitOr all8 (all8 / 2 ^ 6)) 256 (omega arith))
+
+  bit0 : hasBit packed 0 ≡ hasBit c0 0
+  bit0 = simp (has-or, has-mask, or-false)
+
+  bit1 : hasBit packed 1 ≡ (hasBit all9 1 || hasBit all9 9)
+  bit1 = simp (has-or, has-mask, has-shr, or-false)
+
+  bit2 : hasBit packed 2 ≡ (hasBit all5 2 || hasBit all5 10)
+  bit2 = simp (has-or, has-mask, has-shr, or-false)
+
+  bit3 : hasBit packed 3 ≡ hasBit turns 3
+  bit3 = simp (has-or, has-mask, or-false)
+
+  bit4 : hasBit packed 4 ≡ (hasBit two 4 || hasBit two 12)
+  bit4 = simp (has-or, has-mask, has-shr, or-false)
+
+  bit5 : hasBit packed 5 ≡ (hasBit four 5 || hasBit four 13)
+  bit5 = simp (has-or, has-mask, has-shr, or-false)
+
+  bit6 : hasBit packed 6 ≡ hasBit all15 6
+  bit6 = simp (has-or, has-mask, or-false)
+
+  bit7 : hasBit packed 7 ≡ hasBit all8 7
+  bit7 = simp (has-or, has-mask, or-false)
+
+  bit8 : hasBit packed 8 ≡ (hasBit all8 8 || hasBit all8 14)
+  bit8 = simp (has-or, has-mask, has-shr, or-false)
+
+  pub pack-is : packed
+      ≡ fromBits
+      (hasBit c0 0
+      ∷ (hasBit all9 1 || hasBit all9 9)
+      ∷ (hasBit all5 2 || hasBit all5 10)
+      ∷ hasBit turns 3
+      ∷ (hasBit two 4 || hasBit two 12)
+      ∷ (hasBit four 5 || hasBit four 13)
+      ∷ hasBit all15 6
+      ∷ hasBit all8 7
+      ∷ (hasBit all8 8 || hasBit all8 14)
+      ∷ [])
+  pack-is = sym (bits-again 9 packed packed-lt) ∙ ap fromBits (cc (bit0, bit1, bit2, bit3, bit4, bit5, bit6, bit7, bit8))
+
+module _ (c0 c1 c2 c3 c4 c5 c6 c7 c8 : ℕ) (rest : List ℕ) where
   abbrev codes : List ℕ
-  codes = c0 ∷ c1 ∷ c2 ∷ c3 ∷ c4 ∷ c5 ∷ c6 ∷ c7 ∷ c8 ∷ c9 ∷ c10 ∷ c11 ∷ c12 ∷ c13 ∷ c14 ∷ []
-
-  abbrev all3 : ℕ
-  all3 = bitAnd (bitAnd c0 c1) c2
+  codes = c0 ∷ c1 ∷ c2 ∷ c3 ∷ c4 ∷ c5 ∷ c6 ∷ c7 ∷ c8 ∷ rest
 
   abbrev all5 : ℕ
-  all5 = bitAnd (bitAnd all3 c3) c4
+  all5 = bitAnd (bitAnd (bitAnd (bitAnd c0 c1) c2) c3) c4
 
   abbrev all8 : ℕ
   all8 = bitAnd (bitAnd (bitAnd all5 c5) c6) c7
 
   abbrev all9 : ℕ
   all9 = bitAnd all8 c8
-
-  abbrev all15 : ℕ
-  all15 = bitAnd (bitAnd (bitAnd (bitAnd (bitAnd (bitAnd all9 c9) c10) c11) c12) c13) c14
-
-  abbrev even : ℕ
-  even = bitAnd (bitAnd (bitAnd (bitAnd (bitAnd (bitAnd c0 c2) c4) c6) c8) c10) c12
-
-  abbrev odd : ℕ
-  odd = bitAnd (bitAnd (bitAnd (bitAnd (bitAnd c1 c3) c5) c7) c9) c11
 
   abbrev two : ℕ
   two = bitOr (bitAnd c0 c1) (bitAnd c2 (bitOr c0 c1))
@@ -113,10 +180,6 @@ module _ (c0 c1 c2 c3 c4 c5 c6 c7 c8 c9 c10 c11 c12 c13 c14 : ℕ) where
 
   -- bit s of them, by what bit s of each code says
   module _ (s : ℕ) where
-    all3-has : hasBit all3 s ≡ first 3 (column s codes)
-    unfolding every
-    all3-has = simp (has-and, and-assoc, and-true)
-
     all5-has : hasBit all5 s ≡ first 5 (column s codes)
     unfolding every
     all5-has = simp (has-and, and-assoc, and-true)
@@ -129,17 +192,61 @@ module _ (c0 c1 c2 c3 c4 c5 c6 c7 c8 c9 c10 c11 c12 c13 c14 : ℕ) where
     unfolding every
     all9-has = simp (has-and, and-assoc, and-true)
 
-    all15-has : hasBit all15 s ≡ first 15 (column s codes)
-    unfolding every
-    all15-has = simp (has-and, and-assoc, and-true)
-
     two-has : hasBit two s ≡ some 2 3 (column s codes)
     two-has = simp (has-or, has-and) (two-of-three (hasBit c0 s) (hasBit c1 s) (hasBit c2 s))
 
     four-has : hasBit four s ≡ some 4 5 (column s codes)
     four-has = simp (has-or, has-and) (four-of-five (hasBit c0 s) (hasBit c1 s) (hasBit c2 s) (hasBit c3 s) (hasBit c4 s))
 
-  turns-has : (s t : ℕ) → (hasBit even s && hasBit odd t) ≡ byTurns 13 (column s codes) (column t codes)
+  pub short-is :
+      hasBit c0 0
+      ∷ (hasBit all9 1 || hasBit all9 9)
+      ∷ (hasBit all5 2 || hasBit all5 10)
+      ∷ hasBit 0 3
+      ∷ (hasBit two 4 || hasBit two 12)
+      ∷ (hasBit four 5 || hasBit four 13)
+      ∷ hasBit 0 6
+      ∷ hasBit all8 7
+      ∷ (hasBit all8 8 || hasBit all8 14)
+      ∷ []
+      ≡ readShort codes
+  unfolding readShort tests window judge ruleOf bitOf downBit every
+  short-is =
+      nine
+      (sym (or-self (hasBit c0 0 && true) ∙ and-true (hasBit c0 0)))
+      (ap₂ _||_ (all9-has 1) (all9-has 9))
+      (ap₂ _||_ (all5-has 2) (all5-has 10))
+      (no-bit 3)
+      (ap₂ _||_ (two-has 4) (two-has 12))
+      (ap₂ _||_ (four-has 5) (four-has 13))
+      (no-bit 6)
+      (all8-has 7 ∙ sym (or-self (first 8 (column 7 codes))))
+      (ap₂ _||_ (all8-has 8) (all8-has 14))
+
+module _ (c0 c1 c2 c3 c4 c5 c6 c7 c8 c9 c10 c11 c12 c13 c14 : ℕ) where
+  abbrev all-codes : List ℕ
+  all-codes = c0 ∷ c1 ∷ c2 ∷ c3 ∷ c4 ∷ c5 ∷ c6 ∷ c7 ∷ c8 ∷ c9 ∷ c10 ∷ c11 ∷ c12 ∷ c13 ∷ c14 ∷ []
+
+  abbrev last : List ℕ
+  last = c9 ∷ c10 ∷ c11 ∷ c12 ∷ c13 ∷ c14 ∷ []
+
+  abbrev all15 : ℕ
+  all15 = bitAnd (bitAnd (bitAnd (bitAnd (bitAnd (bitAnd (all9 c0 c1 c2 c3 c4 c5 c6 c7 c8 last) c9) c10) c11) c12) c13) c14
+
+  abbrev even : ℕ
+  even = bitAnd (bitAnd (bitAnd (bitAnd (bitAnd (bitAnd c0 c2) c4) c6) c8) c10) c12
+
+  abbrev odd : ℕ
+  odd = bitAnd (bitAnd (bitAnd (bitAnd (bitAnd c1 c3) c5) c7) c9) c11
+
+  abbrev turns : ℕ
+  turns = bitOr (bitAnd even (odd / 2 ^ 8)) (bitAnd (even / 2 ^ 8) odd)
+
+  all15-has : (s : ℕ) → hasBit all15 s ≡ first 15 (column s all-codes)
+  unfolding every
+  all15-has s = simp (has-and, and-assoc, and-true)
+
+  turns-has : (s t : ℕ) → (hasBit even s && hasBit odd t) ≡ byTurns 13 (column s all-codes) (column t all-codes)
   unfolding byTurns every weave
   turns-has s t =
       ap₂ _&&_ evens odds
@@ -153,27 +260,29 @@ module _ (c0 c1 c2 c3 c4 c5 c6 c7 c8 c9 c10 c11 c12 c13 c14 : ℕ) where
       odds = simp (has-and, and-assoc, and-true)
 
   pub standing-is :
-      hasBit (c0 / 2 ^ 1) 0
-      ∷ hasBit (bitOr (all9 / 2 ^ 2) (all9 / 2 ^ 3)) 0
-      ∷ hasBit (bitOr (all5 / 2 ^ 4) (all5 / 2 ^ 5)) 0
-      ∷ hasBit (bitOr (bitAnd (even / 2 ^ 4) (odd / 2 ^ 5)) (bitAnd (even / 2 ^ 5) (odd / 2 ^ 4))) 0
-      ∷ hasBit (bitAnd all3 (bitOr (two / 2 ^ 8) (two / 2 ^ 9))) 0
-      ∷ hasBit (bitAnd all5 (bitOr (four / 2 ^ 6) (four / 2 ^ 7))) 0
-      ∷ hasBit (all15 / 2 ^ 10) 0
-      ∷ hasBit (all8 / 2 ^ 11) 0
-      ∷ hasBit (bitOr (all8 / 2 ^ 2) (all8 / 2 ^ 3)) 0
+      hasBit c0 0
+      ∷ (hasBit (all9 c0 c1 c2 c3 c4 c5 c6 c7 c8 last) 1 || hasBit (all9 c0 c1 c2 c3 c4 c5 c6 c7 c8 last) 9)
+      ∷ (hasBit (all5 c0 c1 c2 c3 c4 c5 c6 c7 c8 last) 2 || hasBit (all5 c0 c1 c2 c3 c4 c5 c6 c7 c8 last) 10)
+      ∷ hasBit turns 3
+      ∷ (hasBit (two c0 c1 c2 c3 c4 c5 c6 c7 c8 last) 4 || hasBit (two c0 c1 c2 c3 c4 c5 c6 c7 c8 last) 12)
+      ∷ (hasBit (four c0 c1 c2 c3 c4 c5 c6 c7 c8 last) 5 || hasBit (four c0 c1 c2 c3 c4 c5 c6 c7 c8 last) 13)
+      ∷ hasBit all15 6
+      ∷ hasBit (all8 c0 c1 c2 c3 c4 c5 c6 c7 c8 last) 7
+      ∷ (hasBit (all8 c0 c1 c2 c3 c4 c5 c6 c7 c8 last) 8 || hasBit (all8 c0 c1 c2 c3 c4 c5 c6 c7 c8 last) 14)
       ∷ []
-      ≡ readOff codes
-  unfolding readOff every
-  standing-is = cc (
-    down c0 1 ∙ sym (and-true (hasBit c0 1)),
-    either all9 2 3 ∙ ap₂ _||_ (all9-has 2) (all9-has 3),
-    either all5 4 5 ∙ ap₂ _||_ (all5-has 4) (all5-has 5),
-    has-or (bitAnd (even / 2 ^ 4) (odd / 2 ^ 5)) (bitAnd (even / 2 ^ 5) (odd / 2 ^ 4)) 0
-        ∙ ap₂ _||_ (both-down even odd 4 5 ∙ turns-has 4 5) (both-down even odd 5 4 ∙ turns-has 5 4),
-    has-and all3 (bitOr (two / 2 ^ 8) (two / 2 ^ 9)) 0 ∙ ap₂ _&&_ (all3-has 0) (either two 8 9 ∙ ap₂ _||_ (two-has 8) (two-has 9)),
-    has-and all5 (bitOr (four / 2 ^ 6) (four / 2 ^ 7)) 0 ∙ ap₂ _&&_ (all5-has 0) (either four 6 7 ∙ ap₂ _||_ (four-has 6) (four-has 7)),
-    down all15 10 ∙ all15-has 10,
-    down all8 11 ∙ all8-has 11,
-    either all8 2 3 ∙ ap₂ _||_ (all8-has 2) (all8-has 3),
-  )
+      ≡ readCodes all-codes
+  unfolding readCodes readOff tests judge ruleOf bitOf downBit every
+  standing-is =
+      nine
+      (sym (or-self (hasBit c0 0 && true) ∙ and-true (hasBit c0 0)))
+      (ap₂ _||_ (all9-has c0 c1 c2 c3 c4 c5 c6 c7 c8 last 1) (all9-has c0 c1 c2 c3 c4 c5 c6 c7 c8 last 9))
+      (ap₂ _||_ (all5-has c0 c1 c2 c3 c4 c5 c6 c7 c8 last 2) (all5-has c0 c1 c2 c3 c4 c5 c6 c7 c8 last 10))
+      (has-or (bitAnd even (odd / 2 ^ 8)) (bitAnd (even / 2 ^ 8) odd) 3
+      ∙ ap₂ _||_
+      (has-and even (odd / 2 ^ 8) 3 ∙ ap (λ (b : Bool). hasBit even 3 && b) (has-shr odd 8 3) ∙ turns-has 3 11)
+      (has-and (even / 2 ^ 8) odd 3 ∙ ap (λ (b : Bool). b && hasBit odd 3) (has-shr even 8 3) ∙ turns-has 11 3))
+      (ap₂ _||_ (two-has c0 c1 c2 c3 c4 c5 c6 c7 c8 last 4) (two-has c0 c1 c2 c3 c4 c5 c6 c7 c8 last 12))
+      (ap₂ _||_ (four-has c0 c1 c2 c3 c4 c5 c6 c7 c8 last 5) (four-has c0 c1 c2 c3 c4 c5 c6 c7 c8 last 13))
+      (all15-has 6 ∙ sym (or-self (first 15 (column 6 all-codes))))
+      (all8-has c0 c1 c2 c3 c4 c5 c6 c7 c8 last 7 ∙ sym (or-self (first 8 (column 7 all-codes))))
+      (ap₂ _||_ (all8-has c0 c1 c2 c3 c4 c5 c6 c7 c8 last 8) (all8-has c0 c1 c2 c3 c4 c5 c6 c7 c8 last 14))

@@ -31,7 +31,7 @@ fill-requires : tie.Need-fill-requires
 fill-requires c κs =
     let done = was-accepted (c .before .before .before .before .before .before .before .args .limits) (c .before .before .before .before .before .before .before .args .set .mask) (c .before .before .before .before .before .before .before .args .values .now) (length (c .before .before .before .before .before .before .before .args .marks .now))
     (sym (c .before .before .before .before .answer .ensures) ∙ sym (c .before .before .before .number .ensures) ∙ c .before .before .if1 .left) in
-    (done .few, done .wide)
+    done .wide
 
 same-length : tie.Need-same-length
 same-length c = search needs

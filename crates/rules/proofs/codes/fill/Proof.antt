@@ -1,8 +1,9 @@
--- `rules::codes::fill` meets its contract: its arrays are room for the codes. Assumes nothing.
-use Prim.Native.Nat.{_+_, _-_}
-use native.Mathlib.Omega.{arith}
-use lib.ListN.{length}
-use Rattle.rules.proofs.Marks.{room-for}
+-- `rules::codes::fill` meets its contract: of few values the marks are those of the set without the long tests. Assumes nothing.
+use mathlib.Core.Path.{ap, _∙_}
+use mathlib.Core.List.{List}
+use Prim.Native.Nat.{ℕ}
+use Rattle.laws.specs.Front.{atFront}
+use Rattle.rules.proofs.Short.{few-marks}
 use borrow.Author.Needs.{needs}
 use Rattle.rules.proofs.codes.fill.Statement.{statement}
 use Rattle.rules.proofs.codes.fill.Tie as tie
@@ -16,37 +17,35 @@ same-length c = search needs
 returns : tie.Need-returns
 returns c = search needs
 
-add-m : tie.Need-add-m
-add-m c = search needs
-
-sub-mark-in : tie.Need-sub-mark-in
-sub-mark-in c = search needs
-
-part-wide-start : tie.Need-part-wide-start
-part-wide-start c = search needs
-
-part-wide-end : tie.Need-part-wide-end
-part-wide-end c = search needs
-
-sub-mark-in-2 : tie.Need-sub-mark-in-2
-sub-mark-in-2 c = search needs
-
-part-c-start : tie.Need-part-c-start
-part-c-start c = search needs
-
-part-c-end : tie.Need-part-c-end
-part-c-end c = search needs
-
-mark-in-requires : tie.Need-mark-in-requires
-mark-in-requires c κs =
-    let n = length (c .before .before .before .before .before .before .args .values .now) in
-    (room-for n (n - 0) (n + 14 - 0) (omega arith) (omega arith) (omega arith), c .before .before .before .before .before .before .pre .1)
+mark-few-requires : tie.Need-mark-few-requires
+mark-few-requires c κs = search needs
 
 same-length-2 : tie.Need-same-length-2
 same-length-2 c = search needs
 
 returns-2 : tie.Need-returns-2
-returns-2 c = search needs
+returns-2 c =
+    c .before .before .mark-few .ensures
+    ∙ ap (λ (marks : List ℕ). atFront marks (c .before .before .before .before .before .before .before .before .args .out .now))
+    (few-marks (c .before .before .before .before .before .before .before .before .args .l) (c .before .before .before .before .before .before .before .before .args .set) (c .before .before .before .before .before .before .before .before .args .values .now) (c .before .before .before .before .if2 .taken))
+
+mark-few-requires-2 : tie.Need-mark-few-requires-2
+mark-few-requires-2 c κs = search needs
+
+same-length-3 : tie.Need-same-length-3
+same-length-3 c = search needs
+
+returns-3 : tie.Need-returns-3
+returns-3 c = search needs
+
+mark-many-requires : tie.Need-mark-many-requires
+mark-many-requires c κs = search needs
+
+same-length-4 : tie.Need-same-length-4
+same-length-4 c = search needs
+
+returns-4 : tie.Need-returns-4
+returns-4 c = search needs
 
 pub fill-spec : {M : Type 1} → statement M
 fill-spec =
@@ -55,13 +54,12 @@ fill-spec =
     mark-beyond-requires
     same-length
     returns
-    add-m
-    sub-mark-in
-    part-wide-start
-    part-wide-end
-    sub-mark-in-2
-    part-c-start
-    part-c-end
-    mark-in-requires
+    mark-few-requires
     same-length-2
-    returns-2)
+    returns-2
+    mark-few-requires-2
+    same-length-3
+    returns-3
+    mark-many-requires
+    same-length-4
+    returns-4)

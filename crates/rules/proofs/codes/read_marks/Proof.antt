@@ -1,64 +1,36 @@
--- `rules::codes::read_marks` meets its contract. The marks are written one after the other. Assumes nothing.
-use mathlib.Core.Path.{ap}
-use Prim.Native.Nat.{_-_}
-use native.Mathlib.Omega.{arith}
+-- `rules::codes::read_marks` meets its contract: a set that has no long test may be read without them. Assumes nothing.
+use mathlib.Core.Path.{_≡_, sym, _∙_}
+use mathlib.Core.Bool.{false}
 use borrow.Author.Needs.{needs}
-use lib.Bits.{bitAnd}
-use lib.ListN.{length}
-use Rattle.laws.proofs.Filling.{Tabling, tabling-starts, tabling-length, tabling-room, tabling-goes-on, tabling-ends}
-use Rattle.rules.specs.Codes.{marksRead}
+use Rattle.rules.specs.Codes.{asks}
+use Rattle.rules.proofs.Short.{short-reads}
 use Rattle.rules.proofs.codes.read_marks.Statement.{statement}
 use Rattle.rules.proofs.codes.read_marks.Tie as tie
 
-abbrev Inv-loop : tie.InvT-loop
-Inv-loop set c out₀ i₀ out i = Tabling (marksRead set c) (length c - 14) out₀ out i
+asks-for-requires : tie.Need-asks-for-requires
+asks-for-requires c κs = search needs
 
-abbrev μ-loop : tie.MeasureT-loop
-μ-loop set c out₀ i₀ out i = length c - i
+read-long-requires : tie.Need-read-long-requires
+read-long-requires c κs = search needs
 
-loop-holds : tie.Need-loop-holds Inv-loop μ-loop
-loop-holds c = tabling-starts (marksRead (c .before .before .args .set) (c .before .before .args .c .now)) (length (c .before .before .args .c .now) - 14) (c .before .before .args .out .now) (omega arith)
+same-length : tie.Need-same-length
+same-length c = search needs
 
-add-loop : tie.Need-add-loop Inv-loop μ-loop
-add-loop c = omega (arith, tabling-length (marksRead (c .before .before .before .args .set) (c .before .before .before .args .c .now)) (length (c .before .before .before .args .c .now) - 14) (c .before .before .before .args .out .now) (c .loop .out) (c .loop .i) (c .loop .inv), c .loop .inv .within)
+returns : tie.Need-returns
+returns c = search needs
 
-standing-at-requires : tie.Need-standing-at-requires Inv-loop μ-loop
-standing-at-requires c κs = omega arith
+read-short-requires : tie.Need-read-short-requires
+read-short-requires c κs = search needs
 
-mul-out : tie.Need-mul-out Inv-loop μ-loop
-mul-out c = omega (arith, tabling-room (marksRead (c .before .before .before .before .before .args .set) (c .before .before .before .before .before .args .c .now)) (length (c .before .before .before .before .before .args .c .now) - 14) (c .before .before .before .before .before .args .out .now) (c .before .before .loop .out) (c .before .before .loop .i) (c .before .before .loop .inv) (omega arith))
+same-length-2 : tie.Need-same-length-2
+same-length-2 c = search needs
 
-slice-write-out : tie.Need-slice-write-out Inv-loop μ-loop
-slice-write-out c = tabling-room (marksRead (c .before .before .before .before .before .args .set) (c .before .before .before .before .before .args .c .now)) (length (c .before .before .before .before .before .args .c .now) - 14) (c .before .before .before .before .before .args .out .now) (c .before .before .loop .out) (c .before .before .loop .i) (c .before .before .loop .inv) (omega arith)
-
-add-i : tie.Need-add-i Inv-loop μ-loop
-add-i c = search needs
-
-loop-less : tie.Need-loop-less Inv-loop μ-loop
-loop-less c = search needs
-
-loop-again : tie.Need-loop-again Inv-loop μ-loop
-loop-again c = tabling-goes-on (marksRead (c .before .before .before .before .before .args .set) (c .before .before .before .before .before .args .c .now)) (length (c .before .before .before .before .before .args .c .now) - 14) (c .before .before .before .before .before .args .out .now) (c .before .before .loop .out) (c .before .before .loop .i) (c .before .before .loop .inv) (bitAnd (c .before .before .before .before .before .args .set) (c .standing-at .result)) (omega arith) (unfold marksRead in ap (bitAnd (c .before .before .before .before .before .args .set)) (c .standing-at .ensures))
-
-same-length : tie.Need-same-length Inv-loop μ-loop
-same-length c = tabling-length (marksRead (c .before .before .before .before .args .set) (c .before .before .before .before .args .c .now)) (length (c .before .before .before .before .args .c .now) - 14) (c .before .before .before .before .args .out .now) (c .before .loop .out) (c .before .loop .i) (c .before .loop .inv)
-
-returns : tie.Need-returns Inv-loop μ-loop
-returns c = tabling-ends (marksRead (c .before .before .before .before .args .set) (c .before .before .before .before .args .c .now)) (length (c .before .before .before .before .args .c .now) - 14) (c .before .before .before .before .args .out .now) (c .before .loop .out) (c .before .loop .i) (c .before .loop .inv) (omega arith)
+returns-2 : tie.Need-returns-2
+returns-2 c =
+    let none : asks (c .before .before .before .before .before .before .before .before .args .set) 72 ≡ false = sym (c .before .before .before .before .before .asks-for .ensures) ∙ c .before .before .before .before .if1 .left in
+    short-reads (c .before .before .before .before .before .before .before .before .args .set) none (c .before .before .before .before .before .before .before .before .args .c .now) (c .before .before .before .before .before .before .before .before .args .out .now) _ (c .before .before .read-short .ensures)
 
 pub read-marks-spec : {M : Type 1} → statement M
 read-marks-spec =
     tie.close
-    (tie.spec
-    Inv-loop
-    μ-loop
-    loop-holds
-    add-loop
-    standing-at-requires
-    mul-out
-    slice-write-out
-    add-i
-    loop-less
-    loop-again
-    same-length
-    returns)
+    (tie.spec asks-for-requires read-long-requires same-length returns read-short-requires same-length-2 returns-2)
