@@ -16,7 +16,7 @@ use Rattle.laws.proofs.FirstBits.{bits-again}
 use Rattle.sets.specs.Sets.{tests, bitOf}
 use Rattle.rules.specs.Tests.{window}
 use Rattle.rules.specs.Columns.{first, byTurns, some, judge, ruleOf, readOff}
-use Rattle.rules.specs.Codes.{column, downBit, readCodes, readShort}
+use Rattle.rules.specs.Codes.{column, downBit, readCodes}
 
 same : (a b : Bool) → Bool·beq a b ≡ true → a ≡ b
 same true true h = refl
@@ -197,31 +197,6 @@ module _ (c0 c1 c2 c3 c4 c5 c6 c7 c8 : ℕ) (rest : List ℕ) where
 
     four-has : hasBit four s ≡ some 4 5 (column s codes)
     four-has = simp (has-or, has-and) (four-of-five (hasBit c0 s) (hasBit c1 s) (hasBit c2 s) (hasBit c3 s) (hasBit c4 s))
-
-  pub short-is :
-      hasBit c0 0
-      ∷ (hasBit all9 1 || hasBit all9 9)
-      ∷ (hasBit all5 2 || hasBit all5 10)
-      ∷ hasBit 0 3
-      ∷ (hasBit two 4 || hasBit two 12)
-      ∷ (hasBit four 5 || hasBit four 13)
-      ∷ hasBit 0 6
-      ∷ hasBit all8 7
-      ∷ (hasBit all8 8 || hasBit all8 14)
-      ∷ []
-      ≡ readShort codes
-  unfolding readShort tests window judge ruleOf bitOf downBit every
-  short-is =
-      nine
-      (sym (or-self (hasBit c0 0 && true) ∙ and-true (hasBit c0 0)))
-      (ap₂ _||_ (all9-has 1) (all9-has 9))
-      (ap₂ _||_ (all5-has 2) (all5-has 10))
-      (no-bit 3)
-      (ap₂ _||_ (two-has 4) (two-has 12))
-      (ap₂ _||_ (four-has 5) (four-has 13))
-      (no-bit 6)
-      (all8-has 7 ∙ sym (or-self (first 8 (column 7 codes))))
-      (ap₂ _||_ (all8-has 8) (all8-has 14))
 
 module _ (c0 c1 c2 c3 c4 c5 c6 c7 c8 c9 c10 c11 c12 c13 c14 : ℕ) where
   abbrev all-codes : List ℕ

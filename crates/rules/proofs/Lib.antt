@@ -3,14 +3,12 @@ mod Windows
 pub mod Columns
 mod Bitwise
 mod Adding
-mod Signs
-mod Short
 mod Parts
-mod Rooms
+mod Signs
 mod Marks
+pub mod Blocks
 mod Single
 pub mod ZoneLines
-pub mod Blocks
 pub mod Accepted
 pub mod Meaning
 pub mod Answers

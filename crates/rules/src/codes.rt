@@ -1,18 +1,26 @@
-// The engine of marking: each value gets a code, two bits for each test, one for each way, and the tests of a position are
-// read off the fifteen codes that end there. No loop branches, so that each runs over several values at a time. The codes
-// are made for a block of values at a time, family by family, and only the families that the set has a test of.
+// The engine of marking. Every value gets a code: two bits for each test, one for each way in which the value can count towards
+// it. The marks of a position are ands and ors of the fifteen codes that end there, so all tests are read off at once, and
+// neither making nor reading codes branches on a value: several values go through each instruction.
+//
+// - `group` makes the codes of sixteen values, family by family (a family is a pair of lines, or the steps), and skips the
+//   families that the set has no test of; `codes` does so for any number of values, the last of them padded.
+// - `standing` reads the tests off fifteen codes. What stands before the first value is free: `fit` takes from the first
+//   fourteen marks the tests whose window does not fit there.
+// - `blocks` marks some 500 positions at a time, in one room of codes, by their values and the fourteen before them; `fill`
+//   gives short series a small room, and a set of the first test alone a loop without codes.
 use super::Lines;
 ghost use mathlib.Core.Path.{_≡_};
-ghost use mathlib.Core.Bool.{true, _||_};
-ghost use mathlib.Core.List.{List, [], _∷_, _++_, map};
+ghost use mathlib.Core.Bool.{_||_};
+ghost use mathlib.Core.List.{[], _∷_};
 ghost use Prim.Native.Nat.{ℕ, _+_, _-_, _≤_, _<_};
 ghost use lib.Bits.{bitAnd};
-ghost use lib.ListN.{length, take, getD, replicate};
+ghost use lib.Ieee.{nan};
+ghost use lib.ListN.{length, getD};
 ghost use Rattle.laws.specs.Bits.{hasBit, fromBits};
 ghost use Rattle.laws.specs.Lists.{tabulate};
 ghost use Rattle.laws.specs.Front.{atFront};
 ghost use Rattle.rules.specs.Marking.{marksAt, marksBy};
-ghost use Rattle.rules.specs.Codes.{picked, zoneCode, insideCode, stepCode, zoneAt, insideAt, pairAt, stepAt, asks, added, codesInto, readCodes, readShort, lastOf, nineOf, marksRead, marksShort, behindZeros, fitsAt};
+ghost use Rattle.rules.specs.Codes.{picked, zoneCode, insideCode, stepCode, zoneAt, insideAt, stepAt, added, codeAt, codesOf, readCodes, lastOf, marksRead, fitsAt};
 
 // The tests of each family.
 const LIMITS: u16 = 0b0_0000_0001;
@@ -26,18 +34,6 @@ const TWO_SIGMA: u16 = 0b0_0001_0000;
 const ONE_SIGMA: u16 = 0b0_1010_0000;
 
 const INSIDE: u16 = 0b0_0100_0000;
-
-// The tests of more than nine values, and the others.
-const LONG: u16 = 0b0_0100_1000;
-
-const SHORT: u16 = 0b1_1011_0111;
-
-// Whether a set has a test of a family.
-fn asks_for(set: u16, family: u16) -> bool
-    ensures { λ r. ⌜ r ≡ asks set family ⌝ }
-{
-    set & family != 0
-}
 
 fn pick(b: bool, k: u16) -> u16
     ensures { λ r. ⌜ r ≡ picked b k ⌝ }
@@ -69,190 +65,162 @@ fn step_code(u: f64, v: f64) -> u16
     pick(u < v, 0x000c) | pick(v < u, 0x0c00)
 }
 
-// The codes are made sixteen at a time in an array of their own, so that all sixteen are read and made before any is
-// written: then they are packed well, also where two values only are compared at a time.
-fn put(from: &[u16], to: &mut [u16])
-    requires { ⌜ length (now from) ≡ length (now to) ⌝ }
-    ensures { λ _. ⌜ now (to .exit) ≡ now (from .entry) ⌝ }
-{
-    let mut i = 0;
-    while i < from.len() {
-        to[i] = from[i];
-        i += 1;
-    }
-}
-
-// How every value lies outside two lines, put into its code.
-fn zone_each(high: f64, low: f64, up: u16, down: u16, values: &[f64], c: &mut [u16])
-    requires { ⌜ length (now values) ≡ length (now c) ⌝ }
-    ensures { λ _. ⌜ now (c .exit) ≡ added (zoneAt true high low up down (now (values .entry))) (now (c .entry)) ⌝ }
-{
-    let mut i = 0;
-    while i < values.len() {
-        let v = values[i];
-        c[i] = c[i] | zone_code(high, low, up, down, v);
-        i += 1;
-    }
-}
-
-fn zone_sixteen(high: f64, low: f64, up: u16, down: u16, values: &[f64], c: &mut [u16])
-    requires { ⌜ (length (now values) ≡ 16) × (length (now c) ≡ 16) ⌝ }
-    ensures { λ _. ⌜ now (c .exit) ≡ added (zoneAt true high low up down (now (values .entry))) (now (c .entry)) ⌝ }
-{
-    let mut k = [0u16; 16];
-    put(c, &mut k[0..16]);
-    zone_each(high, low, up, down, values, &mut k[0..16]);
-    put(&k[0..16], c);
-}
-
-// The same where it is needed.
-fn zones(need: bool, high: f64, low: f64, up: u16, down: u16, values: &[f64], c: &mut [u16])
-    requires { ⌜ length (now values) ≡ length (now c) ⌝ }
-    ensures { λ _. ⌜ now (c .exit) ≡ added (zoneAt need high low up down (now (values .entry))) (now (c .entry)) ⌝ }
+// How sixteen values lie outside two lines, put into their codes where a test asks for it. The sixteen codes are in an array
+// of their own: all of them are read and made before any is written to the slice, so that they are packed well.
+fn zones(need: bool, high: f64, low: f64, up: u16, down: u16, v: &[f64], k: &mut [u16; 16])
+    requires { ⌜ (length (now v) ≡ 16) × (length (now k) ≡ 16) ⌝ }
+    ensures codes { λ _. ⌜ now (k .exit) ≡ added (zoneAt need high low up down (now (v .entry))) (now (k .entry)) ⌝ }
+    ensures sixteen { λ _. ⌜ length (now (k .exit)) ≡ 16 ⌝ }
 {
     if !need {
         return;
     }
-    let n = values.len();
-    let mut i = 0;
-    while 16 <= n - i {
-        let e = i + 16;
-        zone_sixteen(high, low, up, down, &values[i..e], &mut c[i..e]);
-        i = e;
-    }
-    zone_each(high, low, up, down, &values[i..n], &mut c[i..n]);
-}
-
-// Whether every value lies outside neither of two lines, put into its code.
-fn inside_each(high: f64, low: f64, values: &[f64], c: &mut [u16])
-    requires { ⌜ length (now values) ≡ length (now c) ⌝ }
-    ensures { λ _. ⌜ now (c .exit) ≡ added (insideAt true high low (now (values .entry))) (now (c .entry)) ⌝ }
-{
-    let mut i = 0;
-    while i < values.len() {
-        let v = values[i];
-        c[i] = c[i] | inside_code(high, low, v);
-        i += 1;
+    let mut j = 0;
+    while j < 16 {
+        let x = v[j];
+        k[j] = k[j] | zone_code(high, low, up, down, x);
+        j += 1;
     }
 }
 
-fn inside_sixteen(high: f64, low: f64, values: &[f64], c: &mut [u16])
-    requires { ⌜ (length (now values) ≡ 16) × (length (now c) ≡ 16) ⌝ }
-    ensures { λ _. ⌜ now (c .exit) ≡ added (insideAt true high low (now (values .entry))) (now (c .entry)) ⌝ }
-{
-    let mut k = [0u16; 16];
-    put(c, &mut k[0..16]);
-    inside_each(high, low, values, &mut k[0..16]);
-    put(&k[0..16], c);
-}
-
-fn insides(need: bool, high: f64, low: f64, values: &[f64], c: &mut [u16])
-    requires { ⌜ length (now values) ≡ length (now c) ⌝ }
-    ensures { λ _. ⌜ now (c .exit) ≡ added (insideAt need high low (now (values .entry))) (now (c .entry)) ⌝ }
+// Whether they lie outside neither.
+fn insides(need: bool, high: f64, low: f64, v: &[f64], k: &mut [u16; 16])
+    requires { ⌜ (length (now v) ≡ 16) × (length (now k) ≡ 16) ⌝ }
+    ensures codes { λ _. ⌜ now (k .exit) ≡ added (insideAt need high low (now (v .entry))) (now (k .entry)) ⌝ }
+    ensures sixteen { λ _. ⌜ length (now (k .exit)) ≡ 16 ⌝ }
 {
     if !need {
         return;
     }
-    let n = values.len();
-    let mut i = 0;
-    while 16 <= n - i {
-        let e = i + 16;
-        inside_sixteen(high, low, &values[i..e], &mut c[i..e]);
-        i = e;
-    }
-    inside_each(high, low, &values[i..n], &mut c[i..n]);
-}
-
-// How every value lies to the one before it, put into its code.
-fn step_each(before: &[f64], values: &[f64], c: &mut [u16])
-    requires { ⌜ (length (now before) ≡ length (now c)) × (length (now values) ≡ length (now c)) ⌝ }
-    ensures { λ _. ⌜ now (c .exit) ≡ added (pairAt (now (before .entry)) (now (values .entry))) (now (c .entry)) ⌝ }
-{
-    let mut i = 0;
-    while i < values.len() {
-        let u = before[i];
-        let v = values[i];
-        c[i] = c[i] | step_code(u, v);
-        i += 1;
+    let mut j = 0;
+    while j < 16 {
+        let x = v[j];
+        k[j] = k[j] | inside_code(high, low, x);
+        j += 1;
     }
 }
 
-fn step_sixteen(before: &[f64], values: &[f64], c: &mut [u16])
-    requires { ⌜ (length (now before) ≡ 16) × (length (now values) ≡ 16) × (length (now c) ≡ 16) ⌝ }
-    ensures { λ _. ⌜ now (c .exit) ≡ added (pairAt (now (before .entry)) (now (values .entry))) (now (c .entry)) ⌝ }
-{
-    let mut k = [0u16; 16];
-    put(c, &mut k[0..16]);
-    step_each(before, values, &mut k[0..16]);
-    put(&k[0..16], c);
-}
-
-fn step_pairs(before: &[f64], values: &[f64], c: &mut [u16])
-    requires { ⌜ (length (now before) ≡ length (now c)) × (length (now values) ≡ length (now c)) ⌝ }
-    ensures { λ _. ⌜ now (c .exit) ≡ added (pairAt (now (before .entry)) (now (values .entry))) (now (c .entry)) ⌝ }
-{
-    let n = values.len();
-    let mut i = 0;
-    while 16 <= n - i {
-        let e = i + 16;
-        step_sixteen(&before[i..e], &values[i..e], &mut c[i..e]);
-        i = e;
-    }
-    step_each(&before[i..n], &values[i..n], &mut c[i..n]);
-}
-
-// The same where it is needed; the first value comes after itself.
-fn steps(need: bool, values: &[f64], c: &mut [u16])
-    requires { ⌜ length (now values) ≡ length (now c) ⌝ }
-    ensures { λ _. ⌜ now (c .exit) ≡ added (stepAt need (now (values .entry))) (now (c .entry)) ⌝ }
+// How each lies to the one before it; `first` comes before the first.
+fn steps(need: bool, first: f64, v: &[f64], k: &mut [u16; 16])
+    requires { ⌜ (length (now v) ≡ 16) × (length (now k) ≡ 16) ⌝ }
+    ensures codes { λ _. ⌜ now (k .exit) ≡ added (stepAt need first (now (v .entry))) (now (k .entry)) ⌝ }
+    ensures sixteen { λ _. ⌜ length (now (k .exit)) ≡ 16 ⌝ }
 {
     if !need {
         return;
     }
-    let n = values.len();
-    if n == 0 {
-        return;
+    let mut u = first;
+    let mut j = 0;
+    while j < 16 {
+        let x = v[j];
+        k[j] = k[j] | step_code(u, x);
+        u = x;
+        j += 1;
     }
-    step_each(&values[0..1], &values[0..1], &mut c[0..1]);
-    let d = n - 1;
-    step_pairs(&values[0..d], &values[1..n], &mut c[1..n]);
 }
 
-// The codes of every value.
-fn codes(set: u16, l: Lines, values: &[f64], c: &mut [u16])
-    requires { ⌜ length (now values) ≡ length (now c) ⌝ }
-    ensures { λ _. ⌜ now (c .exit) ≡ codesInto set l (now (values .entry)) (now (c .entry)) ⌝ }
+// The codes of sixteen values, before the first of which u comes.
+fn group(set: u16, l: Lines, u: f64, v: &[f64]) -> [u16; 16]
+    requires { ⌜ length (now v) ≡ 16 ⌝ }
+    ensures { λ r. ⌜ r ≡ tabulate (codeAt set l u (now (v .entry))) 16 ⌝ }
 {
+    let mut k = [0u16; 16];
+    zones(set & LIMITS != 0, l.ucl, l.lcl, 0x0001, 0x0001, v, &mut k);
+    zones(set & CENTRE != 0, l.cl, l.cl, 0x0102, 0x4200, v, &mut k);
     zones(
-        asks_for(set, LIMITS),
-        l.ucl,
-        l.lcl,
-        0x0001,
-        0x0001,
-        values,
-        c,
-    );
-    zones(asks_for(set, CENTRE), l.cl, l.cl, 0x0102, 0x4200, values, c);
-    zones(
-        asks_for(set, TWO_SIGMA),
+        set & TWO_SIGMA != 0,
         l.above2,
         l.below2,
         0x0010,
         0x1000,
-        values,
-        c,
+        v,
+        &mut k,
     );
     zones(
-        asks_for(set, ONE_SIGMA),
+        set & ONE_SIGMA != 0,
         l.above1,
         l.below1,
         0x00a0,
         0x2080,
-        values,
-        c,
+        v,
+        &mut k,
     );
-    insides(asks_for(set, INSIDE), l.above1, l.below1, values, c);
-    steps(asks_for(set, STEPS), values, c);
+    insides(set & INSIDE != 0, l.above1, l.below1, v, &mut k);
+    steps(set & STEPS != 0, u, v, &mut k);
+    k
+}
+
+// Up to sixteen values at the front of sixteen.
+fn pad(values: &[f64], v: &mut [f64; 16])
+    requires { ⌜ (length (now values) ≤ 16) × (length (now v) ≡ 16) ⌝ }
+    ensures values { λ _. ⌜ now (v .exit) ≡ atFront (now (values .entry)) (now (v .entry)) ⌝ }
+    ensures sixteen { λ _. ⌜ length (now (v .exit)) ≡ 16 ⌝ }
+{
+    let mut j = 0;
+    while j < values.len() {
+        v[j] = values[j];
+        j += 1;
+    }
+}
+
+// The first m of sixteen codes at the front of `c`.
+fn put(k: &[u16; 16], m: usize, c: &mut [u16])
+    requires { ⌜ (m ≤ 16) × (m ≤ length (now c)) ⌝ }
+    ensures { λ _. ⌜ now (c .exit) ≡ atFront (tabulate (λ j. getD (now (k .entry)) j 0) m) (now (c .entry)) ⌝ }
+{
+    let mut j = 0;
+    while j < m {
+        c[j] = k[j];
+        j += 1;
+    }
+}
+
+// The codes of up to sixteen values, before the first of which u comes, at the front of `c`. Sixteen go the short way.
+fn next_codes(set: u16, l: Lines, u: f64, values: &[f64], c: &mut [u16])
+    requires { ⌜ (length (now values) ≤ 16) × (length (now values) ≤ length (now c)) ⌝ }
+    ensures { λ _. ⌜ now (c .exit) ≡ atFront (tabulate (codeAt set l u (now (values .entry))) (length (now (values .entry)))) (now (c .entry)) ⌝ }
+{
+    if values.len() == 16 {
+        put(&group(set, l, u, values), values.len(), c);
+        return;
+    }
+    let mut v = [0.0f64; 16];
+    pad(values, &mut v);
+    put(&group(set, l, u, &v[0..16]), values.len(), c);
+}
+
+// The value before that at i; the first value comes after itself, so that it neither rises nor falls.
+fn before(values: &[f64], i: usize) -> f64
+    requires { ⌜ i < length (now values) ⌝ }
+    ensures { λ r. ⌜ r ≡ getD (getD (now (values .entry)) 0 nan ∷ now (values .entry)) i nan ⌝ }
+{
+    if i == 0 {
+        return values[0];
+    }
+    values[i - 1]
+}
+
+fn least(a: usize, b: usize) -> usize
+    ensures { λ r. ⌜ (r ≤ a) × (r ≤ b) × ((i : ℕ) → i < a → i < b → i < r) ⌝ }
+{
+    if a < b {
+        return a;
+    }
+    b
+}
+
+// The codes of every value at the front of `c`.
+fn codes(set: u16, l: Lines, values: &[f64], c: &mut [u16])
+    requires { ⌜ length (now values) ≤ length (now c) ⌝ }
+    ensures { λ _. ⌜ now (c .exit) ≡ atFront (codesOf set l (now (values .entry))) (now (c .entry)) ⌝ }
+{
+    let n = values.len();
+    let mut i = 0;
+    while i < n {
+        let e = i + least(n - i, 16);
+        next_codes(set, l, before(values, i), &values[i..e], &mut c[i..]);
+        i = e;
+    }
 }
 
 // The tests by their bits: of two signals, one and the one eight places above.
@@ -331,87 +299,16 @@ fn standing_at(c: &[u16], i: usize) -> u16
     )
 }
 
-// The same without the two tests of more than nine values, by the first nine codes, whatever stands behind them.
-fn standing_short(
-    c0: u16,
-    c1: u16,
-    c2: u16,
-    c3: u16,
-    c4: u16,
-    c5: u16,
-    c6: u16,
-    c7: u16,
-    c8: u16,
-) -> u16
-    ensures { λ r. ⌜ ((rest : List ℕ) → r ≡ fromBits (readShort (c0 ∷ c1 ∷ c2 ∷ c3 ∷ c4 ∷ c5 ∷ c6 ∷ c7 ∷ c8 ∷ rest))) ⌝ }
-{
-    let all5 = c0 & c1 & c2 & c3 & c4;
-    let all8 = all5 & c5 & c6 & c7;
-    let all9 = all8 & c8;
-    let two = (c0 & c1) | (c2 & (c0 | c1));
-    let four = (c0 & c1 & c2 & c3) | (c4 & ((c0 & c1 & (c2 | c3)) | ((c0 | c1) & c2 & c3)));
-    pack(c0, all5, all8, all9, 0, 0, two, four)
-}
-
-fn short_at(c: &[u16], i: usize) -> u16
-    requires { ⌜ i + 14 < length (now c) ⌝ }
-    ensures { λ r. ⌜ ((rest : List ℕ) → r ≡ fromBits (readShort (nineOf (now (c .entry)) i rest))) ⌝ }
-{
-    standing_short(
-        c[i + 14],
-        c[i + 13],
-        c[i + 12],
-        c[i + 11],
-        c[i + 10],
-        c[i + 9],
-        c[i + 8],
-        c[i + 7],
-        c[i + 6],
-    )
-}
-
-// The marks of every position from the fifteenth code on, at the front of `out`, wherever their windows reach.
-fn read_long(set: u16, c: &[u16], out: &mut [u16])
-    requires { ⌜ length (now c) ≤ length (now out) + 14 ⌝ }
-    ensures { λ _. ⌜ now (out .exit) ≡ atFront (tabulate (marksRead set (now (c .entry))) (length (now (c .entry)) - 14)) (now (out .entry)) ⌝ }
+// The marks of m positions, read off the fifteen codes that end at each, wherever their windows reach.
+fn read_marks(set: u16, c: &[u16], m: usize, out: &mut [u16])
+    requires { ⌜ (m + 14 ≤ length (now c)) × (m ≤ length (now out)) ⌝ }
+    ensures { λ _. ⌜ now (out .exit) ≡ atFront (tabulate (marksRead set (now (c .entry))) m) (now (out .entry)) ⌝ }
 {
     let mut i = 0;
-    while i + 14 < c.len() {
+    while i < m {
         out[i] = set & standing_at(c, i);
         i += 1;
     }
-}
-
-fn read_short(set: u16, c: &[u16], out: &mut [u16])
-    requires { ⌜ length (now c) ≤ length (now out) + 14 ⌝ }
-    ensures { λ _. ⌜ now (out .exit) ≡ atFront (tabulate (marksShort set (now (c .entry))) (length (now (c .entry)) - 14)) (now (out .entry)) ⌝ }
-{
-    let mut i = 0;
-    while i + 14 < c.len() {
-        out[i] = set & short_at(c, i);
-        i += 1;
-    }
-}
-
-// The marks of every position, read off no more codes than the set's tests have need of.
-fn read_marks(set: u16, c: &[u16], out: &mut [u16])
-    requires { ⌜ length (now c) ≤ length (now out) + 14 ⌝ }
-    ensures { λ _. ⌜ now (out .exit) ≡ atFront (tabulate (marksRead set (now (c .entry))) (length (now (c .entry)) - 14)) (now (out .entry)) ⌝ }
-{
-    if asks_for(set, LONG) {
-        read_long(set, c, out);
-        return;
-    }
-    read_short(set, c, out);
-}
-
-// The same from the values, whose codes stand behind z zeros; `c` is room for both.
-fn mark_in(l: Lines, set: u16, values: &[f64], z: usize, c: &mut [u16], out: &mut [u16])
-    requires { ⌜ (now c ≡ replicate (z + length (now values)) 0) × (z + length (now values) ≤ length (now out) + 14) ⌝ }
-    ensures { λ _. ⌜ now (out .exit) ≡ atFront (tabulate (marksRead set (behindZeros z set l (now (values .entry)))) (z + length (now (values .entry)) - 14)) (now (out .entry)) ⌝ }
-{
-    codes(set, l, values, &mut c[z..]);
-    read_marks(set, c, out);
 }
 
 // The tests whose window fits at each of the first fourteen positions.
@@ -432,100 +329,60 @@ const FITS: [u16; 14] = [
     0b1_1011_1111,
 ];
 
-// Takes from the first k marks the tests whose window does not fit.
-fn fit(k: usize, out: &mut [u16])
-    requires { ⌜ (k ≤ 14) × (k ≤ length (now out)) ⌝ }
-    ensures { λ _. ⌜ now (out .exit) ≡ atFront (tabulate (λ i. bitAnd (getD (now (out .entry)) i 0) (fitsAt i)) k) (now (out .entry)) ⌝ }
+// Takes from k marks, the first of which is at position `from`, the tests whose window does not fit.
+fn fit(from: usize, k: usize, out: &mut [u16])
+    requires { ⌜ (from + k ≤ 14) × (k ≤ length (now out)) ⌝ }
+    ensures { λ _. ⌜ now (out .exit) ≡ atFront (tabulate (λ i. bitAnd (getD (now (out .entry)) i 0) (fitsAt (from + i))) k) (now (out .entry)) ⌝ }
 {
     let mut i = 0;
     while i < k {
-        out[i] = out[i] & FITS[i];
+        out[i] = out[i] & FITS[from + i];
         i += 1;
     }
 }
 
-// As many of n positions as are among the first fourteen.
-fn early(n: usize) -> usize
-    ensures { λ r. ⌜ (r ≤ 14) × (r ≤ n) × ((i : ℕ) → i < n → i < 14 → i < r) ⌝ }
+// The marks of a block, before which come the first p of the values, at most fourteen; `c` is room for codes.
+fn block(l: Lines, set: u16, values: &[f64], p: usize, c: &mut [u16], out: &mut [u16])
+    requires { ⌜ (p ≤ 14) × (p ≤ length (now values)) × (length (now values) + 14 ≤ length (now c) + p) × (length (now values) ≤ length (now out) + p) ⌝ }
+    ensures { λ _. ⌜ now (out .exit) ≡ atFront (tabulate (λ i. marksAt l set (now (values .entry)) (p + i)) (length (now (values .entry)) - p)) (now (out .entry)) ⌝ }
 {
-    if n < 14 {
-        return n;
-    }
-    14
+    let free = 14 - p;
+    let m = values.len() - p;
+    codes(set, l, values, &mut c[free..]);
+    read_marks(set, c, m, out);
+    fit(p, least(free, m), out);
 }
 
-// The marks of every position of a series at the front of `out`; `c` is room for its codes behind fourteen zeros.
-fn begin_in(l: Lines, set: u16, values: &[f64], c: &mut [u16], out: &mut [u16])
-    requires { ⌜ (now c ≡ replicate (14 + length (now values)) 0) × (length (now values) ≤ length (now out)) ⌝ }
+// The marks of every position, `most` at a time, at the front of `out`; `c` is room for codes.
+fn blocks(l: Lines, set: u16, values: &[f64], most: usize, c: &mut [u16], out: &mut [u16])
+    requires { ⌜ (0 < most) × (most + 14 ≤ length (now c)) × (length (now values) ≤ length (now out)) ⌝ }
     ensures { λ _. ⌜ now (out .exit) ≡ atFront (marksBy l set (now (values .entry))) (now (out .entry)) ⌝ }
 {
-    mark_in(l, set, values, 14, c, out);
-    fit(early(values.len()), out);
-}
-
-// The same for few values, with little room to be cleared.
-fn mark_few(l: Lines, set: u16, values: &[f64], out: &mut [u16])
-    requires { ⌜ (length (now values) ≤ 50) × (length (now values) ≤ length (now out)) ⌝ }
-    ensures { λ _. ⌜ now (out .exit) ≡ atFront (marksBy l set (now (values .entry))) (now (out .entry)) ⌝ }
-{
-    let m = values.len() + 14;
-    let mut c = [0u16; 64];
-    begin_in(l, set, values, &mut c[0..m], out);
-}
-
-// The same for a block of values.
-fn begin(l: Lines, set: u16, values: &[f64], out: &mut [u16])
-    requires { ⌜ (length (now values) ≤ 498) × (length (now values) ≤ length (now out)) ⌝ }
-    ensures { λ _. ⌜ now (out .exit) ≡ atFront (marksBy l set (now (values .entry))) (now (out .entry)) ⌝ }
-{
-    let m = values.len() + 14;
-    let mut c = [0u16; 512];
-    begin_in(l, set, values, &mut c[0..m], out);
-}
-
-// The marks of the positions of a block, which the fourteen values before it precede.
-fn go_on(l: Lines, set: u16, values: &[f64], out: &mut [u16])
-    requires { ⌜ (14 ≤ length (now values)) × (length (now values) ≤ 512) × (length (now values) ≤ length (now out) + 14) ⌝ }
-    ensures { λ _. ⌜ now (out .exit) ≡ atFront (tabulate (λ i. marksAt l set (now (values .entry)) (14 + i)) (length (now (values .entry)) - 14)) (now (out .entry)) ⌝ }
-{
-    let m = values.len();
-    let mut c = [0u16; 512];
-    mark_in(l, set, values, 0, &mut c[0..m], out);
-}
-
-// Where the block that begins at `at` ends.
-fn block_end(at: usize, n: usize) -> usize
-    requires { ⌜ at < n ⌝ }
-    ensures { λ r. ⌜ (at < r) × (r ≤ n) × (r ≤ at + 498) × (14 ≤ n → 14 ≤ at + r) ⌝ }
-{
-    if n - at < 498 {
-        return n;
-    }
-    at + 498
-}
-
-// The marks of every position from `from` on, where those before it are at the front of `out`.
-fn rest(l: Lines, set: u16, values: &[f64], from: usize, out: &mut [u16])
-    requires { ⌜ (14 ≤ from) × (from ≤ length (now values)) × (length (now values) ≤ length (now out)) × (take from (now out) ≡ take from (marksBy l set (now values))) ⌝ }
-    ensures { λ _. ⌜ now (out .exit) ≡ atFront (marksBy l set (now (values .entry))) (now (out .entry)) ⌝ }
-{
-    let mut at = from;
-    while at < values.len() {
-        let start = at - 14;
-        let end = block_end(at, values.len());
-        go_on(l, set, &values[start..end], &mut out[at..]);
+    let n = values.len();
+    let mut at = 0;
+    while at < n {
+        let p = least(at, 14);
+        let start = at - p;
+        let end = at + least(n - at, most);
+        block(l, set, &values[start..end], p, c, &mut out[at..]);
         at = end;
     }
 }
 
-// The marks of every position, block by block.
-fn mark_many(l: Lines, set: u16, values: &[f64], out: &mut [u16])
-    requires { ⌜ (50 < length (now values)) × (length (now values) ≤ length (now out)) ⌝ }
+fn mark_few(l: Lines, set: u16, values: &[f64], out: &mut [u16])
+    requires { ⌜ length (now values) ≤ length (now out) ⌝ }
     ensures { λ _. ⌜ now (out .exit) ≡ atFront (marksBy l set (now (values .entry))) (now (out .entry)) ⌝ }
 {
-    let end = block_end(0, values.len());
-    begin(l, set, &values[0..end], out);
-    rest(l, set, values, end, out);
+    let mut c = [0u16; 64];
+    blocks(l, set, values, 50, &mut c[0..64], out);
+}
+
+fn mark_many(l: Lines, set: u16, values: &[f64], out: &mut [u16])
+    requires { ⌜ length (now values) ≤ length (now out) ⌝ }
+    ensures { λ _. ⌜ now (out .exit) ≡ atFront (marksBy l set (now (values .entry))) (now (out .entry)) ⌝ }
+{
+    let mut c = [0u16; 512];
+    blocks(l, set, values, 498, &mut c[0..512], out);
 }
 
 // The same for a set that has no test but the first, whose windows are single values: no codes are needed.
@@ -541,17 +398,13 @@ fn mark_beyond(l: Lines, set: u16, values: &[f64], out: &mut [u16])
     }
 }
 
-// The marks of every position at the front of `out`. Of fewer than fourteen values no long test can stand.
+// The marks of every position at the front of `out`.
 pub fn fill(l: Lines, set: u16, values: &[f64], out: &mut [u16])
     requires { ⌜ length (now values) ≤ length (now out) ⌝ }
     ensures { λ _. ⌜ now (out .exit) ≡ atFront (marksBy l set (now (values .entry))) (now (out .entry)) ⌝ }
 {
     if set < 2 {
         mark_beyond(l, set, values, out);
-        return;
-    }
-    if values.len() < 14 {
-        mark_few(l, set & SHORT, values, out);
         return;
     }
     if values.len() <= 50 {

@@ -1,74 +1,68 @@
--- `rules::codes::codes` meets its contract: what each family puts into the codes is put into them. Assumes nothing.
-use mathlib.Core.Path.{_≡_, refl, sym, ap, ap₂, _∙_}
+-- `rules::codes::codes` meets its contract: up to sixteen codes at a time. Assumes nothing.
+use mathlib.Core.Path.{refl, _∙_}
+use Prim.Native.Nat.{_+_, _-_, _≤_}
+use native.Mathlib.Omega.{arith}
 use borrow.Author.Needs.{needs}
-use Rattle.rules.proofs.Rooms.{added-length, codes-by}
+use lib.Ieee.{nan}
+use lib.ListN.{length, getD}
+use Rattle.laws.proofs.Filling.{Tabling, tabling-starts, tabling-length, tabling-ends}
+use Rattle.rules.specs.Codes.{codeAt, codesOf}
+use Rattle.rules.proofs.Adding.{codes-part}
+use Rattle.rules.proofs.Parts.{part-long, part-start, part-room, part-fills}
 use Rattle.rules.proofs.codes.codes.Statement.{statement}
 use Rattle.rules.proofs.codes.codes.Tie as tie
 
-asks-for-requires : tie.Need-asks-for-requires
-asks-for-requires c κs = search needs
+abbrev Inv-loop : tie.InvT-loop
+Inv-loop set l values c₀ n i₀ c i = Tabling (codeAt set l (getD values 0 nan) values) (length values) c₀ c i
 
-zones-requires : tie.Need-zones-requires
-zones-requires c κs = search needs
+abbrev μ-loop : tie.MeasureT-loop
+μ-loop set l values c₀ n i₀ c i = length values - i
 
-asks-for-requires-2 : tie.Need-asks-for-requires-2
-asks-for-requires-2 c κs = search needs
+next-codes-requires : tie.Need-next-codes-requires Inv-loop μ-loop
+next-codes-requires c κs =
+    let s = c .before .before .before .before .before .before .before .before .args in
+    let at = c .before .before .before .before .before in
+    let m = c .before .before .before .least in
+    let some : at .loop .i + m .result ≤ length (s .values .now) = omega (arith, m .ensures .0) in
+    let long = part-long (s .values .now) (at .loop .i) (at .loop .i + m .result) some in
+    (omega (arith, long, m .ensures .1), omega (arith, long, part-room _ _ _ _ _ (at .loop .inv) (m .result) some))
 
-zones-requires-2 : tie.Need-zones-requires-2
-zones-requires-2 c κs = search needs
+loop-again : tie.Need-loop-again Inv-loop μ-loop
+loop-again c =
+    let s = c .before .before .before .before .before .before .before .before .before .before .before .args in
+    let at = c .before .before .before .before .before .before .before .before in
+    let m = c .before .before .before .before .before .before .least in
+    let some : at .loop .i + m .result ≤ length (s .values .now) = omega (arith, m .ensures .0) in
+    let long = part-long (s .values .now) (at .loop .i) (at .loop .i + m .result) some in
+    part-fills _ _ _ _ _ (at .loop .inv) (m .result) some _
+    (λ j h. codes-part (s .set) (s .l) (s .values .now) _ (at .loop .i) (at .loop .i + m .result - at .loop .i) (c .before .before .before .before .before .before2 .ensures) j (omega arith))
+    _ _ (omega (arith, long)) (c .before .before .next-codes .ensures)
 
-asks-for-requires-3 : tie.Need-asks-for-requires-3
-asks-for-requires-3 c κs = search needs
-
-zones-requires-3 : tie.Need-zones-requires-3
-zones-requires-3 c κs = search needs
-
-asks-for-requires-4 : tie.Need-asks-for-requires-4
-asks-for-requires-4 c κs = search needs
-
-zones-requires-4 : tie.Need-zones-requires-4
-zones-requires-4 c κs = search needs
-
-asks-for-requires-5 : tie.Need-asks-for-requires-5
-asks-for-requires-5 c κs = search needs
-
-insides-requires : tie.Need-insides-requires
-insides-requires c κs = search needs
-
-asks-for-requires-6 : tie.Need-asks-for-requires-6
-asks-for-requires-6 c κs = search needs
-
-steps-requires : tie.Need-steps-requires
-steps-requires c κs = c .before .before .before .before .before .before .before .before .before .before .before .before .before .before .before .before .before .before .before .before .before .before .before .before .before .before .before .before .before .pre ∙ sym (added-length _ _ _ (c .before .before .before .before .insides .ensures) ∙ added-length _ _ _ (c .before .before .before .before .before .before .before .before .before .zones4 .ensures) ∙ added-length _ _ _ (c .before .before .before .before .before .before .before .before .before .before .before .before .before .before .zones3 .ensures) ∙ added-length _ _ _ (c .before .before .before .before .before .before .before .before .before .before .before .before .before .before .before .before .before .before .before .zones2 .ensures) ∙ added-length _ _ _ (c .before .before .before .before .before .before .before .before .before .before .before .before .before .before .before .before .before .before .before .before .before .before .before .before .zones .ensures))
-
-same-length : tie.Need-same-length
-same-length c = added-length _ _ _ (c .before .before .steps .ensures) ∙ added-length _ _ _ (c .before .before .before .before .before .before .before .insides .ensures) ∙ added-length _ _ _ (c .before .before .before .before .before .before .before .before .before .before .before .before .zones4 .ensures) ∙ added-length _ _ _ (c .before .before .before .before .before .before .before .before .before .before .before .before .before .before .before .before .before .zones3 .ensures) ∙ added-length _ _ _ (c .before .before .before .before .before .before .before .before .before .before .before .before .before .before .before .before .before .before .before .before .before .before .zones2 .ensures) ∙ added-length _ _ _ (c .before .before .before .before .before .before .before .before .before .before .before .before .before .before .before .before .before .before .before .before .before .before .before .before .before .before .before .zones .ensures)
-
-returns : tie.Need-returns
-returns c =
-    codes-by (c .before .before .before .before .before .before .before .before .before .before .before .before .before .before .before .before .before .before .before .before .before .before .before .before .before .before .before .before .before .before .before .before .args .set) (c .before .before .before .before .before .before .before .before .before .before .before .before .before .before .before .before .before .before .before .before .before .before .before .before .before .before .before .before .before .before .before .before .args .l) (c .before .before .before .before .before .before .before .before .before .before .before .before .before .before .before .before .before .before .before .before .before .before .before .before .before .before .before .before .before .before .before .before .args .values .now) (c .before .before .before .before .before .before .before .before .before .before .before .before .before .before .before .before .before .before .before .before .before .before .before .before .before .before .before .before .before .before .before .before .args .c .now) _ _ _ _ _ _ _ _ _ _ _ _
-    (c .before .before .before .before .before .before .before .before .before .before .before .before .before .before .before .before .before .before .before .before .before .before .before .before .before .before .before .before .before .asks-for .ensures) (c .before .before .before .before .before .before .before .before .before .before .before .before .before .before .before .before .before .before .before .before .before .before .before .before .before .before .before .zones .ensures)
-    (c .before .before .before .before .before .before .before .before .before .before .before .before .before .before .before .before .before .before .before .before .before .before .before .before .asks-for2 .ensures) (c .before .before .before .before .before .before .before .before .before .before .before .before .before .before .before .before .before .before .before .before .before .before .zones2 .ensures)
-    (c .before .before .before .before .before .before .before .before .before .before .before .before .before .before .before .before .before .before .before .asks-for3 .ensures) (c .before .before .before .before .before .before .before .before .before .before .before .before .before .before .before .before .before .zones3 .ensures)
-    (c .before .before .before .before .before .before .before .before .before .before .before .before .before .before .asks-for4 .ensures) (c .before .before .before .before .before .before .before .before .before .before .before .before .zones4 .ensures)
-    (c .before .before .before .before .before .before .before .before .before .asks-for5 .ensures) (c .before .before .before .before .before .before .before .insides .ensures)
-    (c .before .before .before .before .asks-for6 .ensures) (c .before .before .steps .ensures)
+returns : tie.Need-returns Inv-loop μ-loop
+unfolding codesOf
+returns c = tabling-ends _ _ _ _ _ (c .before .loop .inv) (c .loop-test .left)
 
 pub codes-spec : {M : Type 1} → statement M
 codes-spec =
     tie.close
     (tie.spec
-    asks-for-requires
-    zones-requires
-    asks-for-requires-2
-    zones-requires-2
-    asks-for-requires-3
-    zones-requires-3
-    asks-for-requires-4
-    zones-requires-4
-    asks-for-requires-5
-    insides-requires
-    asks-for-requires-6
-    steps-requires
-    same-length
+    Inv-loop
+    μ-loop
+    (λ c. tabling-starts _ _ _ (c .before .before .pre))
+    (λ c. search needs)
+    (λ c κs. search needs)
+    (λ c. search needs)
+    (λ c κs. search needs)
+    (λ c. search needs)
+    (λ c. search needs)
+    (λ c. search needs)
+    (λ c. search needs)
+    (λ c. search needs)
+    (λ c. omega (arith, part-start _ _ _ _ _ (c .before .before .before .before .loop .inv) 0 (omega arith)))
+    (λ c. part-start _ _ _ _ _ (c .before .before .before .before .loop .inv) 0 (omega arith))
+    (λ c. search needs)
+    next-codes-requires
+    (λ c. omega (arith, c .before .before .before .before .before .before .least .ensures .2 0 (omega arith) (omega arith)))
+    loop-again
+    (λ c. tabling-length _ _ _ _ _ (c .before .loop .inv))
     returns)

@@ -1,36 +1,36 @@
--- `rules::codes::read_marks` meets its contract: a set that has no long test may be read without them. Assumes nothing.
-use mathlib.Core.Path.{_≡_, sym, _∙_}
-use mathlib.Core.Bool.{false}
+-- `rules::codes::read_marks` meets its contract: the marks are written one after the other. Assumes nothing.
+use mathlib.Core.Path.{ap}
+use Prim.Native.Nat.{_-_}
+use native.Mathlib.Omega.{arith}
 use borrow.Author.Needs.{needs}
-use Rattle.rules.specs.Codes.{asks}
-use Rattle.rules.proofs.Short.{short-reads}
+use lib.Bits.{bitAnd}
+use Rattle.laws.proofs.Filling.{Tabling, tabling-starts, tabling-length, tabling-room, tabling-goes-on, tabling-ends}
+use Rattle.rules.specs.Codes.{marksRead}
 use Rattle.rules.proofs.codes.read_marks.Statement.{statement}
 use Rattle.rules.proofs.codes.read_marks.Tie as tie
 
-asks-for-requires : tie.Need-asks-for-requires
-asks-for-requires c κs = search needs
+abbrev Inv-loop : tie.InvT-loop
+Inv-loop set c m out₀ i₀ out i = Tabling (marksRead set c) m out₀ out i
 
-read-long-requires : tie.Need-read-long-requires
-read-long-requires c κs = search needs
+abbrev μ-loop : tie.MeasureT-loop
+μ-loop set c m out₀ i₀ out i = m - i
 
-same-length : tie.Need-same-length
-same-length c = search needs
-
-returns : tie.Need-returns
-returns c = search needs
-
-read-short-requires : tie.Need-read-short-requires
-read-short-requires c κs = search needs
-
-same-length-2 : tie.Need-same-length-2
-same-length-2 c = search needs
-
-returns-2 : tie.Need-returns-2
-returns-2 c =
-    let none : asks (c .before .before .before .before .before .before .before .before .args .set) 72 ≡ false = sym (c .before .before .before .before .before .asks-for .ensures) ∙ c .before .before .before .before .if1 .left in
-    short-reads (c .before .before .before .before .before .before .before .before .args .set) none (c .before .before .before .before .before .before .before .before .args .c .now) (c .before .before .before .before .before .before .before .before .args .out .now) _ (c .before .before .read-short .ensures)
+loop-again : tie.Need-loop-again Inv-loop μ-loop
+unfolding marksRead
+loop-again c = tabling-goes-on _ _ _ _ _ (c .before .before .loop .inv) _ (c .before .loop-test .taken) (ap (bitAnd (c .before .before .before .before .before .args .set)) (c .standing-at .ensures))
 
 pub read-marks-spec : {M : Type 1} → statement M
 read-marks-spec =
     tie.close
-    (tie.spec asks-for-requires read-long-requires same-length returns read-short-requires same-length-2 returns-2)
+    (tie.spec
+    Inv-loop
+    μ-loop
+    (λ c. tabling-starts _ _ _ (c .before .before .pre .1))
+    (λ c κs. omega arith)
+    (λ c. omega (arith, tabling-room _ _ _ _ _ (c .before .before .loop .inv) (c .before .loop-test .taken)))
+    (λ c. tabling-room _ _ _ _ _ (c .before .before .loop .inv) (c .before .loop-test .taken))
+    (λ c. search needs)
+    (λ c. search needs)
+    loop-again
+    (λ c. tabling-length _ _ _ _ _ (c .before .loop .inv))
+    (λ c. tabling-ends _ _ _ _ _ (c .before .loop .inv) (c .loop-test .left)))

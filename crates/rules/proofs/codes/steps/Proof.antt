@@ -1,136 +1,59 @@
--- `rules::codes::steps` meets its contract: the first code, and then the others. Assumes nothing.
-use mathlib.Core.Path.{_≡_, refl, sym, ap, ap₂, _∙_}
-use mathlib.Core.Bool.{Bool, true, false}
-use mathlib.Core.List.{List}
-use Prim.Native.Nat.{ℕ, _+_, _-_, _≤_, _<_}
+-- `rules::codes::steps` meets its contract: one code after the other, and u is the value before. Assumes nothing.
+use mathlib.Core.Path.{_≡_, refl, ap, _∙_}
+use mathlib.Core.Bool.{true, false}
+use mathlib.Core.List.{_∷_}
+use Prim.Native.Nat.{_-_}
+use native.Mathlib.Numerals.{add-one}
 use native.Mathlib.Omega.{arith}
 use borrow.Author.Needs.{needs}
 use borrow.Author.Tests.{not-true, not-false}
-use lib.ListN.{length}
-use Rattle.rules.specs.Codes.{stepAt, added}
-use Rattle.rules.proofs.Adding.{adding-starts, adding-ends, added-none}
-use Rattle.rules.proofs.Parts.{part-long, once-length, once-again, twice-length, twice-made}
+use lib.Ieee.{Float, nan}
+use lib.ListN.{length, getD}
+use Rattle.rules.specs.Codes.{stepAt, stepCode}
+use Rattle.rules.proofs.Adding.{Adding, adding-starts, adding-goes-on, adding-ends, length-added, added-none}
 use Rattle.rules.proofs.codes.steps.Statement.{statement}
 use Rattle.rules.proofs.codes.steps.Tie as tie
 
-returns : tie.Need-returns
+abbrev Inv-loop : tie.InvT-loop
+Inv-loop need first v k₀ u₀ j₀ k u j = Adding (stepAt true first v) k₀ k j × (u ≡ getD (first ∷ v) j nan)
+
+abbrev μ-loop : tie.MeasureT-loop
+μ-loop need first v k₀ u₀ j₀ k u j = 16 - j
+
+returns : tie.Need-returns Inv-loop μ-loop
 returns c =
-    let off : c .before .before .before .args .need ≡ false = not-true _ (c .if1 .taken) in
-    added-none (c .before .before .before .args .c .now)
-    ∙ ap (λ (need : Bool). added (stepAt need (c .before .before .before .args .values .now)) (c .before .before .before .args .c .now)) (sym off)
+    let off : c .before .before .args .need ≡ false = not-true _ (c .if1 .taken) in
+    (rw off (added-none (c .before .before .args .k .now) (c .before .before .pre .1)), c .before .before .pre .1)
 
-returns-2 : tie.Need-returns-2
-returns-2 c = adding-ends (stepAt (c .before .before .before .before .args .need) (c .before .before .before .before .args .values .now)) (c .before .before .before .before .args .c .now) (c .before .before .before .before .args .c .now) 0 (adding-starts (stepAt (c .before .before .before .before .args .need) (c .before .before .before .before .args .values .now)) (c .before .before .before .before .args .c .now)) (omega (arith, c .before .before .before .before .pre, c .if2 .taken))
+loop-again : tie.Need-loop-again Inv-loop μ-loop
+loop-again c =
+    let now = c .before .before .before .before .loop .inv in (
+      adding-goes-on _ _ _ _ (now .0) (c .step-code .result) (omega arith) (c .step-code .ensures ∙ ap (λ (u : Float). stepCode u (getD (c .before .before .before .before .before .before .before .args .v .now) (c .before .before .before .before .loop .j) nan)) (now .1)),
+      rw add-one refl,
+    )
 
-sub-step-each : tie.Need-sub-step-each
-sub-step-each c = omega (arith, c .before .before .before .before .pre, c .if2 .left)
-
-part-step-each-start : tie.Need-part-step-each-start
-part-step-each-start c = omega (arith, c .before .before .before .before .pre, c .if2 .left)
-
-part-step-each-end : tie.Need-part-step-each-end
-part-step-each-end c = omega (arith, c .before .before .before .before .pre, c .if2 .left)
-
-sub-step-each-2 : tie.Need-sub-step-each-2
-sub-step-each-2 c = omega (arith, c .before .before .before .before .before .pre, c .before .if2 .left)
-
-part-step-each-start-2 : tie.Need-part-step-each-start-2
-part-step-each-start-2 c = omega (arith, c .before .before .before .before .before .pre, c .before .if2 .left)
-
-part-step-each-end-2 : tie.Need-part-step-each-end-2
-part-step-each-end-2 c = omega (arith, c .before .before .before .before .before .pre, c .before .if2 .left)
-
-sub-step-each-3 : tie.Need-sub-step-each-3
-sub-step-each-3 c = omega (arith, c .before .before .before .before .before .before .pre, c .before .before .if2 .left)
-
-part-step-each-start-3 : tie.Need-part-step-each-start-3
-part-step-each-start-3 c = omega (arith, c .before .before .before .before .before .before .pre, c .before .before .if2 .left)
-
-part-step-each-end-3 : tie.Need-part-step-each-end-3
-part-step-each-end-3 c = omega (arith, c .before .before .before .before .before .before .pre, c .before .before .if2 .left)
-
-step-each-requires : tie.Need-step-each-requires
-step-each-requires c κs =
-    let same = part-long (c .before .before .before .before .before .before .before .args .values .now) 0 1 1 (omega (arith, c .before .before .before .before .before .before .before .pre, c .before .before .before .if2 .left)) refl ∙ sym (part-long (c .before .before .before .before .before .before .before .args .c .now) 0 1 1 (omega (arith, c .before .before .before .before .before .before .before .pre, c .before .before .before .if2 .left)) refl) in
-    (same, same)
-
-sub-d : tie.Need-sub-d
-sub-d c = omega (arith, c .before .before .before .before .before .before .before .before .before .before .pre, c .before .before .before .before .before .before .if2 .left)
-
-sub-step-pairs : tie.Need-sub-step-pairs
-sub-step-pairs c = omega (arith, c .before .before .before .before .before .before .before .before .before .before .pre, c .before .before .before .before .before .before .if2 .left)
-
-part-step-pairs-start : tie.Need-part-step-pairs-start
-part-step-pairs-start c = omega (arith, c .before .before .before .before .before .before .before .before .before .before .pre, c .before .before .before .before .before .before .if2 .left)
-
-part-step-pairs-end : tie.Need-part-step-pairs-end
-part-step-pairs-end c = omega (arith, c .before .before .before .before .before .before .before .before .before .before .pre, c .before .before .before .before .before .before .if2 .left)
-
-sub-step-pairs-2 : tie.Need-sub-step-pairs-2
-sub-step-pairs-2 c = omega (arith, c .before .before .before .before .before .before .before .before .before .before .before .pre, c .before .before .before .before .before .before .before .if2 .left)
-
-part-step-pairs-start-2 : tie.Need-part-step-pairs-start-2
-part-step-pairs-start-2 c = omega (arith, c .before .before .before .before .before .before .before .before .before .before .before .pre, c .before .before .before .before .before .before .before .if2 .left)
-
-part-step-pairs-end-2 : tie.Need-part-step-pairs-end-2
-part-step-pairs-end-2 c = omega (arith, c .before .before .before .before .before .before .before .before .before .before .before .pre, c .before .before .before .before .before .before .before .if2 .left)
-
-sub-step-pairs-3 : tie.Need-sub-step-pairs-3
-sub-step-pairs-3 c =
-    let asked : c .before .before .before .before .before .before .before .before .before .before .before .before .args .need ≡ true = not-false _ (c .before .before .before .before .before .before .before .before .before .if1 .left) in
-    omega (arith, c .before .before .before .before .before .before .before .before .before .before .before .before .pre, c .before .before .before .before .before .before .before .before .if2 .left, once-length (c .before .before .before .before .before .before .before .before .before .before .before .before .args .need) asked (c .before .before .before .before .before .before .before .before .before .before .before .before .args .values .now) (c .before .before .before .before .before .before .before .before .before .before .before .before .args .c .now) (c .before .before .before .before .before .before .before .before .before .before .before .before .pre) (omega (arith, c .before .before .before .before .before .before .before .before .before .before .before .before .pre, c .before .before .before .before .before .before .before .before .if2 .left)) _ (c .before .before .before .before .step-each .ensures))
-
-part-step-pairs-start-3 : tie.Need-part-step-pairs-start-3
-part-step-pairs-start-3 c =
-    let asked : c .before .before .before .before .before .before .before .before .before .before .before .before .args .need ≡ true = not-false _ (c .before .before .before .before .before .before .before .before .before .if1 .left) in
-    omega (arith, c .before .before .before .before .before .before .before .before .before .before .before .before .pre, c .before .before .before .before .before .before .before .before .if2 .left, once-length (c .before .before .before .before .before .before .before .before .before .before .before .before .args .need) asked (c .before .before .before .before .before .before .before .before .before .before .before .before .args .values .now) (c .before .before .before .before .before .before .before .before .before .before .before .before .args .c .now) (c .before .before .before .before .before .before .before .before .before .before .before .before .pre) (omega (arith, c .before .before .before .before .before .before .before .before .before .before .before .before .pre, c .before .before .before .before .before .before .before .before .if2 .left)) _ (c .before .before .before .before .step-each .ensures))
-
-part-step-pairs-end-3 : tie.Need-part-step-pairs-end-3
-part-step-pairs-end-3 c =
-    let asked : c .before .before .before .before .before .before .before .before .before .before .before .before .args .need ≡ true = not-false _ (c .before .before .before .before .before .before .before .before .before .if1 .left) in
-    omega (arith, c .before .before .before .before .before .before .before .before .before .before .before .before .pre, c .before .before .before .before .before .before .before .before .if2 .left, once-length (c .before .before .before .before .before .before .before .before .before .before .before .before .args .need) asked (c .before .before .before .before .before .before .before .before .before .before .before .before .args .values .now) (c .before .before .before .before .before .before .before .before .before .before .before .before .args .c .now) (c .before .before .before .before .before .before .before .before .before .before .before .before .pre) (omega (arith, c .before .before .before .before .before .before .before .before .before .before .before .before .pre, c .before .before .before .before .before .before .before .before .if2 .left)) _ (c .before .before .before .before .step-each .ensures))
-
-step-pairs-requires : tie.Need-step-pairs-requires
-step-pairs-requires c κs =
-    let asked : c .before .before .before .before .before .before .before .before .before .before .before .before .before .args .need ≡ true = not-false _ (c .before .before .before .before .before .before .before .before .before .before .if1 .left) in
-    once-again (c .before .before .before .before .before .before .before .before .before .before .before .before .before .args .need) asked (c .before .before .before .before .before .before .before .before .before .before .before .before .before .args .values .now) (c .before .before .before .before .before .before .before .before .before .before .before .before .before .args .c .now) (c .before .before .before .before .before .before .before .before .before .before .before .before .before .pre) (omega (arith, c .before .before .before .before .before .before .before .before .before .before .before .before .before .pre, c .before .before .before .before .before .before .before .before .before .if2 .left)) _ (c .before .before .before .before .before .step-each .ensures) (length (c .before .before .before .before .before .before .before .before .before .before .before .before .before .args .values .now) - 1 - 0) (omega arith)
-
-same-length : tie.Need-same-length
-same-length c =
-    let asked : c .before .before .before .before .before .before .before .before .before .before .before .before .before .before .before .before .args .need ≡ true = not-false _ (c .before .before .before .before .before .before .before .before .before .before .before .before .before .if1 .left) in
-    twice-length (c .before .before .before .before .before .before .before .before .before .before .before .before .before .before .before .before .args .need) asked (c .before .before .before .before .before .before .before .before .before .before .before .before .before .before .before .before .args .values .now) (c .before .before .before .before .before .before .before .before .before .before .before .before .before .before .before .before .args .c .now) (c .before .before .before .before .before .before .before .before .before .before .before .before .before .before .before .before .pre) (omega (arith, c .before .before .before .before .before .before .before .before .before .before .before .before .before .before .before .before .pre, c .before .before .before .before .before .before .before .before .before .before .before .before .if2 .left)) _ (c .before .before .before .before .before .before .before .before .step-each .ensures) (length (c .before .before .before .before .before .before .before .before .before .before .before .before .before .before .before .before .args .values .now) - 1 - 0) (omega arith) _ (c .before .before .step-pairs .ensures)
-
-returns-3 : tie.Need-returns-3
-returns-3 c =
-    let asked : c .before .before .before .before .before .before .before .before .before .before .before .before .before .before .before .before .args .need ≡ true = not-false _ (c .before .before .before .before .before .before .before .before .before .before .before .before .before .if1 .left) in
-    twice-made (c .before .before .before .before .before .before .before .before .before .before .before .before .before .before .before .before .args .need) asked (c .before .before .before .before .before .before .before .before .before .before .before .before .before .before .before .before .args .values .now) (c .before .before .before .before .before .before .before .before .before .before .before .before .before .before .before .before .args .c .now) (c .before .before .before .before .before .before .before .before .before .before .before .before .before .before .before .before .pre) (omega (arith, c .before .before .before .before .before .before .before .before .before .before .before .before .before .before .before .before .pre, c .before .before .before .before .before .before .before .before .before .before .before .before .if2 .left)) _ (c .before .before .before .before .before .before .before .before .step-each .ensures) (length (c .before .before .before .before .before .before .before .before .before .before .before .before .before .before .before .before .args .values .now) - 1 - 0) (omega arith) _ (c .before .before .step-pairs .ensures)
+returns-2 : tie.Need-returns-2 Inv-loop μ-loop
+returns-2 c =
+    let on : c .before .before .before .before .args .need ≡ true = not-false _ (c .before .before .if1 .left) in
+    let made = adding-ends _ _ _ _ (c .before .loop .inv .0) (omega arith) (c .before .before .before .before .pre .1) in
+    (rw on made, ap length made ∙ length-added _ _)
 
 pub steps-spec : {M : Type 1} → statement M
 steps-spec =
     tie.close
     (tie.spec
+    Inv-loop
+    μ-loop
     returns
-    returns-2
-    sub-step-each
-    part-step-each-start
-    part-step-each-end
-    sub-step-each-2
-    part-step-each-start-2
-    part-step-each-end-2
-    sub-step-each-3
-    part-step-each-start-3
-    part-step-each-end-3
-    step-each-requires
-    sub-d
-    sub-step-pairs
-    part-step-pairs-start
-    part-step-pairs-end
-    sub-step-pairs-2
-    part-step-pairs-start-2
-    part-step-pairs-end-2
-    sub-step-pairs-3
-    part-step-pairs-start-3
-    part-step-pairs-end-3
-    step-pairs-requires
-    same-length
-    returns-3)
+    (λ c. (adding-starts _ _ (omega arith), refl))
+    (λ c. search needs)
+    (λ c. search needs)
+    (λ c. search needs)
+    (λ c. search needs)
+    (λ c κs. search needs)
+    (λ c. search needs)
+    (λ c. search needs)
+    (λ c. search needs)
+    (λ c. search needs)
+    loop-again
+    returns-2)

@@ -6,20 +6,9 @@ use Rattle.rules.specs.Codes.{zoneCode}
 use Rattle.rules.proofs.codes.zone_code.Statement.{statement}
 use Rattle.rules.proofs.codes.zone_code.Tie as tie
 
-pick-requires : tie.Need-pick-requires
-pick-requires c κs = search needs
-
-pick-requires-2 : tie.Need-pick-requires-2
-pick-requires-2 c κs = search needs
-
 returns : tie.Need-returns
 unfolding zoneCode
 returns c = ap₂ bitOr (c .before .pick .ensures) (c .pick2 .ensures)
 
 pub zone-code-spec : {M : Type 1} → statement M
-zone-code-spec =
-    tie.close
-    (tie.spec
-    pick-requires
-    pick-requires-2
-    returns)
+zone-code-spec = tie.close (tie.spec (λ c κs. search needs) (λ c κs. search needs) returns)
