@@ -11,12 +11,10 @@ use Rattle.laws.specs.Bools.{every, count}
 use Rattle.laws.specs.Bits.{hasBit, fromBits}
 use Rattle.laws.proofs.Bools.{both}
 use Rattle.laws.proofs.Bits.{has-and, has-or, has-shr}
-use Rattle.laws.proofs.OneBit.{no-bit}
 use Rattle.laws.proofs.FirstBits.{bits-again}
 use Rattle.sets.specs.Sets.{tests, bitOf}
-use Rattle.rules.specs.Tests.{window}
 use Rattle.rules.specs.Columns.{first, byTurns, some, judge, ruleOf, readOff}
-use Rattle.rules.specs.Codes.{column, downBit, readCodes}
+use Rattle.rules.specs.Codes.{column, downBit, packedBits, readCodes}
 
 same : (a b : Bool) → Bool·beq a b ≡ true → a ≡ b
 same true true h = refl
@@ -116,50 +114,26 @@ module _ (c0 all5 all8 all9 all15 turns two four : ℕ) where
       (less all8 128 (omega arith)))
       (less (bitOr all8 (all8 / 2 ^ 6)) 256 (omega arith))
 
-  bit0 : hasBit packed 0 ≡ hasBit c0 0
-  bit0 = simp (has-or, has-mask, or-false)
+  bits : hasBit packed 0 ∷ hasBit packed 1 ∷ hasBit packed 2 ∷ hasBit packed 3 ∷ hasBit packed 4 ∷ hasBit packed 5 ∷ hasBit packed 6 ∷ hasBit packed 7 ∷ hasBit packed 8 ∷ []
+      ≡ packedBits c0 all5 all8 all9 all15 turns two four
+  bits =
+      nine
+      (simp (has-or, has-mask, or-false))
+      (simp (has-or, has-mask, has-shr, or-false))
+      (simp (has-or, has-mask, has-shr, or-false))
+      (simp (has-or, has-mask, or-false))
+      (simp (has-or, has-mask, has-shr, or-false))
+      (simp (has-or, has-mask, has-shr, or-false))
+      (simp (has-or, has-mask, or-false))
+      (simp (has-or, has-mask, or-false))
+      (simp (has-or, has-mask, has-shr, or-false))
 
-  bit1 : hasBit packed 1 ≡ (hasBit all9 1 || hasBit all9 9)
-  bit1 = simp (has-or, has-mask, has-shr, or-false)
+  pub pack-is : packed ≡ fromBits (packedBits c0 all5 all8 all9 all15 turns two four)
+  pack-is = sym (bits-again 9 packed packed-lt) ∙ ap fromBits bits
 
-  bit2 : hasBit packed 2 ≡ (hasBit all5 2 || hasBit all5 10)
-  bit2 = simp (has-or, has-mask, has-shr, or-false)
-
-  bit3 : hasBit packed 3 ≡ hasBit turns 3
-  bit3 = simp (has-or, has-mask, or-false)
-
-  bit4 : hasBit packed 4 ≡ (hasBit two 4 || hasBit two 12)
-  bit4 = simp (has-or, has-mask, has-shr, or-false)
-
-  bit5 : hasBit packed 5 ≡ (hasBit four 5 || hasBit four 13)
-  bit5 = simp (has-or, has-mask, has-shr, or-false)
-
-  bit6 : hasBit packed 6 ≡ hasBit all15 6
-  bit6 = simp (has-or, has-mask, or-false)
-
-  bit7 : hasBit packed 7 ≡ hasBit all8 7
-  bit7 = simp (has-or, has-mask, or-false)
-
-  bit8 : hasBit packed 8 ≡ (hasBit all8 8 || hasBit all8 14)
-  bit8 = simp (has-or, has-mask, has-shr, or-false)
-
-  pub pack-is : packed
-      ≡ fromBits
-      (hasBit c0 0
-      ∷ (hasBit all9 1 || hasBit all9 9)
-      ∷ (hasBit all5 2 || hasBit all5 10)
-      ∷ hasBit turns 3
-      ∷ (hasBit two 4 || hasBit two 12)
-      ∷ (hasBit four 5 || hasBit four 13)
-      ∷ hasBit all15 6
-      ∷ hasBit all8 7
-      ∷ (hasBit all8 8 || hasBit all8 14)
-      ∷ [])
-  pack-is = sym (bits-again 9 packed packed-lt) ∙ ap fromBits (cc (bit0, bit1, bit2, bit3, bit4, bit5, bit6, bit7, bit8))
-
-module _ (c0 c1 c2 c3 c4 c5 c6 c7 c8 : ℕ) (rest : List ℕ) where
+module _ (c0 c1 c2 c3 c4 c5 c6 c7 c8 c9 c10 c11 c12 c13 c14 : ℕ) where
   abbrev codes : List ℕ
-  codes = c0 ∷ c1 ∷ c2 ∷ c3 ∷ c4 ∷ c5 ∷ c6 ∷ c7 ∷ c8 ∷ rest
+  codes = c0 ∷ c1 ∷ c2 ∷ c3 ∷ c4 ∷ c5 ∷ c6 ∷ c7 ∷ c8 ∷ c9 ∷ c10 ∷ c11 ∷ c12 ∷ c13 ∷ c14 ∷ []
 
   abbrev all5 : ℕ
   all5 = bitAnd (bitAnd (bitAnd (bitAnd c0 c1) c2) c3) c4
@@ -169,6 +143,18 @@ module _ (c0 c1 c2 c3 c4 c5 c6 c7 c8 : ℕ) (rest : List ℕ) where
 
   abbrev all9 : ℕ
   all9 = bitAnd all8 c8
+
+  abbrev all15 : ℕ
+  all15 = bitAnd (bitAnd (bitAnd (bitAnd (bitAnd (bitAnd all9 c9) c10) c11) c12) c13) c14
+
+  abbrev even : ℕ
+  even = bitAnd (bitAnd (bitAnd (bitAnd (bitAnd (bitAnd c0 c2) c4) c6) c8) c10) c12
+
+  abbrev odd : ℕ
+  odd = bitAnd (bitAnd (bitAnd (bitAnd (bitAnd c1 c3) c5) c7) c9) c11
+
+  abbrev turns : ℕ
+  turns = bitOr (bitAnd even (odd / 2 ^ 8)) (bitAnd (even / 2 ^ 8) odd)
 
   abbrev two : ℕ
   two = bitOr (bitAnd c0 c1) (bitAnd c2 (bitOr c0 c1))
@@ -192,36 +178,17 @@ module _ (c0 c1 c2 c3 c4 c5 c6 c7 c8 : ℕ) (rest : List ℕ) where
     unfolding every
     all9-has = simp (has-and, and-assoc, and-true)
 
+    all15-has : hasBit all15 s ≡ first 15 (column s codes)
+    unfolding every
+    all15-has = simp (has-and, and-assoc, and-true)
+
     two-has : hasBit two s ≡ some 2 3 (column s codes)
     two-has = simp (has-or, has-and) (two-of-three (hasBit c0 s) (hasBit c1 s) (hasBit c2 s))
 
     four-has : hasBit four s ≡ some 4 5 (column s codes)
     four-has = simp (has-or, has-and) (four-of-five (hasBit c0 s) (hasBit c1 s) (hasBit c2 s) (hasBit c3 s) (hasBit c4 s))
 
-module _ (c0 c1 c2 c3 c4 c5 c6 c7 c8 c9 c10 c11 c12 c13 c14 : ℕ) where
-  abbrev all-codes : List ℕ
-  all-codes = c0 ∷ c1 ∷ c2 ∷ c3 ∷ c4 ∷ c5 ∷ c6 ∷ c7 ∷ c8 ∷ c9 ∷ c10 ∷ c11 ∷ c12 ∷ c13 ∷ c14 ∷ []
-
-  abbrev last : List ℕ
-  last = c9 ∷ c10 ∷ c11 ∷ c12 ∷ c13 ∷ c14 ∷ []
-
-  abbrev all15 : ℕ
-  all15 = bitAnd (bitAnd (bitAnd (bitAnd (bitAnd (bitAnd (all9 c0 c1 c2 c3 c4 c5 c6 c7 c8 last) c9) c10) c11) c12) c13) c14
-
-  abbrev even : ℕ
-  even = bitAnd (bitAnd (bitAnd (bitAnd (bitAnd (bitAnd c0 c2) c4) c6) c8) c10) c12
-
-  abbrev odd : ℕ
-  odd = bitAnd (bitAnd (bitAnd (bitAnd (bitAnd c1 c3) c5) c7) c9) c11
-
-  abbrev turns : ℕ
-  turns = bitOr (bitAnd even (odd / 2 ^ 8)) (bitAnd (even / 2 ^ 8) odd)
-
-  all15-has : (s : ℕ) → hasBit all15 s ≡ first 15 (column s all-codes)
-  unfolding every
-  all15-has s = simp (has-and, and-assoc, and-true)
-
-  turns-has : (s t : ℕ) → (hasBit even s && hasBit odd t) ≡ byTurns 13 (column s all-codes) (column t all-codes)
+  turns-has : (s t : ℕ) → (hasBit even s && hasBit odd t) ≡ byTurns 13 (column s codes) (column t codes)
   unfolding byTurns every weave
   turns-has s t =
       ap₂ _&&_ evens odds
@@ -234,30 +201,19 @@ module _ (c0 c1 c2 c3 c4 c5 c6 c7 c8 c9 c10 c11 c12 c13 c14 : ℕ) where
       odds : hasBit odd t ≡ every (hasBit c1 t ∷ hasBit c3 t ∷ hasBit c5 t ∷ hasBit c7 t ∷ hasBit c9 t ∷ hasBit c11 t ∷ [])
       odds = simp (has-and, and-assoc, and-true)
 
-  pub standing-is :
-      hasBit c0 0
-      ∷ (hasBit (all9 c0 c1 c2 c3 c4 c5 c6 c7 c8 last) 1 || hasBit (all9 c0 c1 c2 c3 c4 c5 c6 c7 c8 last) 9)
-      ∷ (hasBit (all5 c0 c1 c2 c3 c4 c5 c6 c7 c8 last) 2 || hasBit (all5 c0 c1 c2 c3 c4 c5 c6 c7 c8 last) 10)
-      ∷ hasBit turns 3
-      ∷ (hasBit (two c0 c1 c2 c3 c4 c5 c6 c7 c8 last) 4 || hasBit (two c0 c1 c2 c3 c4 c5 c6 c7 c8 last) 12)
-      ∷ (hasBit (four c0 c1 c2 c3 c4 c5 c6 c7 c8 last) 5 || hasBit (four c0 c1 c2 c3 c4 c5 c6 c7 c8 last) 13)
-      ∷ hasBit all15 6
-      ∷ hasBit (all8 c0 c1 c2 c3 c4 c5 c6 c7 c8 last) 7
-      ∷ (hasBit (all8 c0 c1 c2 c3 c4 c5 c6 c7 c8 last) 8 || hasBit (all8 c0 c1 c2 c3 c4 c5 c6 c7 c8 last) 14)
-      ∷ []
-      ≡ readCodes all-codes
+  pub standing-is : packedBits c0 all5 all8 all9 all15 turns two four ≡ readCodes codes
   unfolding readCodes readOff tests judge ruleOf bitOf downBit every
   standing-is =
       nine
       (sym (or-self (hasBit c0 0 && true) ∙ and-true (hasBit c0 0)))
-      (ap₂ _||_ (all9-has c0 c1 c2 c3 c4 c5 c6 c7 c8 last 1) (all9-has c0 c1 c2 c3 c4 c5 c6 c7 c8 last 9))
-      (ap₂ _||_ (all5-has c0 c1 c2 c3 c4 c5 c6 c7 c8 last 2) (all5-has c0 c1 c2 c3 c4 c5 c6 c7 c8 last 10))
+      (ap₂ _||_ (all9-has 1) (all9-has 9))
+      (ap₂ _||_ (all5-has 2) (all5-has 10))
       (has-or (bitAnd even (odd / 2 ^ 8)) (bitAnd (even / 2 ^ 8) odd) 3
       ∙ ap₂ _||_
       (has-and even (odd / 2 ^ 8) 3 ∙ ap (λ (b : Bool). hasBit even 3 && b) (has-shr odd 8 3) ∙ turns-has 3 11)
       (has-and (even / 2 ^ 8) odd 3 ∙ ap (λ (b : Bool). b && hasBit odd 3) (has-shr even 8 3) ∙ turns-has 11 3))
-      (ap₂ _||_ (two-has c0 c1 c2 c3 c4 c5 c6 c7 c8 last 4) (two-has c0 c1 c2 c3 c4 c5 c6 c7 c8 last 12))
-      (ap₂ _||_ (four-has c0 c1 c2 c3 c4 c5 c6 c7 c8 last 5) (four-has c0 c1 c2 c3 c4 c5 c6 c7 c8 last 13))
-      (all15-has 6 ∙ sym (or-self (first 15 (column 6 all-codes))))
-      (all8-has c0 c1 c2 c3 c4 c5 c6 c7 c8 last 7 ∙ sym (or-self (first 8 (column 7 all-codes))))
-      (ap₂ _||_ (all8-has c0 c1 c2 c3 c4 c5 c6 c7 c8 last 8) (all8-has c0 c1 c2 c3 c4 c5 c6 c7 c8 last 14))
+      (ap₂ _||_ (two-has 4) (two-has 12))
+      (ap₂ _||_ (four-has 5) (four-has 13))
+      (all15-has 6 ∙ sym (or-self (first 15 (column 6 codes))))
+      (all8-has 7 ∙ sym (or-self (first 8 (column 7 codes))))
+      (ap₂ _||_ (all8-has 8) (all8-has 14))

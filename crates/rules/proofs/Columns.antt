@@ -2,8 +2,8 @@
 -- tests of the set that stand. An engine proves its columns, and a further test its row in `judged`. Assumes nothing.
 use mathlib.Core.Path.{_≡_, refl, sym, ap, ap₂, _∙_, fun-ext}
 use mathlib.Core.Bool.{Bool, true, false, _&&_, _||_, or-self}
-use mathlib.Core.List.{List, [], _∷_, map}
-use Prim.Native.Nat.{ℕ, zero, suc, _≤_, _<_}
+use mathlib.Core.List.{List, map}
+use Prim.Native.Nat.{ℕ, suc, _≤_, _<_}
 use native.Mathlib.Omega.{arith}
 use borrow.Author.Tests.{le-leb, leb-true}
 use lib.Bits.{bitAnd, and-comm}
@@ -20,7 +20,7 @@ use Rattle.sets.proofs.Sets.{agree, has-setOf, and-setOf}
 use Rattle.rules.specs.declared.Lines.{Lines}
 use Rattle.rules.specs.Tests.{over, under, all, atLeast, rise, fall, steps, alternating, window, shows}
 use Rattle.rules.specs.Marking.{stands}
-use Rattle.rules.specs.Columns.{Signal, signs, Begins, Column, first, some, byTurns, judge, ruleOf, upOf, downOf, readOff, fitting}
+use Rattle.rules.specs.Columns.{signs, Begins, Column, first, some, byTurns, judge, ruleOf, upOf, downOf, readOff, fitting}
 use Rattle.rules.proofs.Windows.{and-swap, behind, all-of, some-of, enough-steps, steps-of, turns-of}
 
 -- a list that agrees entry by entry begins so

@@ -21,7 +21,7 @@ use Rattle.sets.specs.Sets.{bitOf, tests, setOf}
 use Rattle.rules.specs.declared.Lines.{Lines}
 use Rattle.rules.specs.Tests.{window}
 use Rattle.rules.specs.Marking.{newestFirst, marksAt}
-use Rattle.rules.specs.Columns.{readOff, fitting}
+use Rattle.rules.specs.Columns.{fitting}
 use Rattle.rules.specs.Codes.{codeAt, codesOf, lastOf, column, downBit, readCodes, marksRead, fitsAt}
 use Rattle.rules.proofs.Columns.{reads-marks, reads-far}
 use Rattle.rules.proofs.Signs.{length-newest, codes-show}

@@ -97,6 +97,20 @@ downBit FifteenWithin1Sigma = 6
 downBit EightBeyond1Sigma = 7
 downBit EightOneSide = 14
 
+-- the nine tests by the bits of what all, some and every other of the codes have in common
+abbrev pub packedBits : ℕ → ℕ → ℕ → ℕ → ℕ → ℕ → ℕ → ℕ → List Bool
+packedBits c0 all5 all8 all9 all15 turns two four =
+    hasBit c0 0
+    ∷ (hasBit all9 1 || hasBit all9 9)
+    ∷ (hasBit all5 2 || hasBit all5 10)
+    ∷ hasBit turns 3
+    ∷ (hasBit two 4 || hasBit two 12)
+    ∷ (hasBit four 5 || hasBit four 13)
+    ∷ hasBit all15 6
+    ∷ hasBit all8 7
+    ∷ (hasBit all8 8 || hasBit all8 14)
+    ∷ []
+
 -- the nine tests, read off the codes that end at a position, newest first
 unfoldable pub readCodes : List ℕ → List Bool
 readCodes cs = readOff (λ t. column (bitOf t) cs) (λ t. column (downBit t) cs)

@@ -10,17 +10,16 @@
 //   gives short series a small room, and a set of the first test alone a loop without codes.
 use super::Lines;
 ghost use mathlib.Core.Path.{_≡_};
-ghost use mathlib.Core.Bool.{_||_};
 ghost use mathlib.Core.List.{[], _∷_};
 ghost use Prim.Native.Nat.{ℕ, _+_, _-_, _≤_, _<_};
 ghost use lib.Bits.{bitAnd};
 ghost use lib.Ieee.{nan};
 ghost use lib.ListN.{length, getD};
-ghost use Rattle.laws.specs.Bits.{hasBit, fromBits};
+ghost use Rattle.laws.specs.Bits.{fromBits};
 ghost use Rattle.laws.specs.Lists.{tabulate};
 ghost use Rattle.laws.specs.Front.{atFront};
 ghost use Rattle.rules.specs.Marking.{marksAt, marksBy};
-ghost use Rattle.rules.specs.Codes.{picked, zoneCode, insideCode, stepCode, zoneAt, insideAt, stepAt, added, codeAt, codesOf, readCodes, lastOf, marksRead, fitsAt};
+ghost use Rattle.rules.specs.Codes.{picked, zoneCode, insideCode, stepCode, zoneAt, insideAt, stepAt, added, codeAt, codesOf, packedBits, readCodes, lastOf, marksRead, fitsAt};
 
 // The tests of each family.
 const LIMITS: u16 = 0b0_0000_0001;
@@ -65,15 +64,23 @@ fn step_code(u: f64, v: f64) -> u16
     pick(u < v, 0x000c) | pick(v < u, 0x0c00)
 }
 
-// How sixteen values lie outside two lines, put into their codes where a test asks for it. The sixteen codes are in an array
-// of their own: all of them are read and made before any is written to the slice, so that they are packed well.
-fn zones(need: bool, high: f64, low: f64, up: u16, down: u16, v: &[f64], k: &mut [u16; 16])
-    requires { ⌜ (length (now v) ≡ 16) × (length (now k) ≡ 16) ⌝ }
-    ensures codes { λ _. ⌜ now (k .exit) ≡ added (zoneAt need high low up down (now (v .entry))) (now (k .entry)) ⌝ }
-    ensures sixteen { λ _. ⌜ length (now (k .exit)) ≡ 16 ⌝ }
+// How sixteen values lie outside two lines, put into their codes where a test asks for it. The codes go by value, and not behind
+// a reference: then nothing that is written can be one of the values, and LLVM compares and packs eight of them at a time.
+fn zones(
+    need: bool,
+    high: f64,
+    low: f64,
+    up: u16,
+    down: u16,
+    v: &[f64],
+    mut k: [u16; 16],
+) -> [u16; 16]
+    requires { ⌜ (length (now v) ≡ 16) × (length k ≡ 16) ⌝ }
+    ensures codes { λ r. ⌜ r ≡ added (zoneAt need high low up down (now (v .entry))) k ⌝ }
+    ensures sixteen { λ r. ⌜ length r ≡ 16 ⌝ }
 {
     if !need {
-        return;
+        return k;
     }
     let mut j = 0;
     while j < 16 {
@@ -81,16 +88,17 @@ fn zones(need: bool, high: f64, low: f64, up: u16, down: u16, v: &[f64], k: &mut
         k[j] = k[j] | zone_code(high, low, up, down, x);
         j += 1;
     }
+    k
 }
 
 // Whether they lie outside neither.
-fn insides(need: bool, high: f64, low: f64, v: &[f64], k: &mut [u16; 16])
-    requires { ⌜ (length (now v) ≡ 16) × (length (now k) ≡ 16) ⌝ }
-    ensures codes { λ _. ⌜ now (k .exit) ≡ added (insideAt need high low (now (v .entry))) (now (k .entry)) ⌝ }
-    ensures sixteen { λ _. ⌜ length (now (k .exit)) ≡ 16 ⌝ }
+fn insides(need: bool, high: f64, low: f64, v: &[f64], mut k: [u16; 16]) -> [u16; 16]
+    requires { ⌜ (length (now v) ≡ 16) × (length k ≡ 16) ⌝ }
+    ensures codes { λ r. ⌜ r ≡ added (insideAt need high low (now (v .entry))) k ⌝ }
+    ensures sixteen { λ r. ⌜ length r ≡ 16 ⌝ }
 {
     if !need {
-        return;
+        return k;
     }
     let mut j = 0;
     while j < 16 {
@@ -98,16 +106,17 @@ fn insides(need: bool, high: f64, low: f64, v: &[f64], k: &mut [u16; 16])
         k[j] = k[j] | inside_code(high, low, x);
         j += 1;
     }
+    k
 }
 
 // How each lies to the one before it; `first` comes before the first.
-fn steps(need: bool, first: f64, v: &[f64], k: &mut [u16; 16])
-    requires { ⌜ (length (now v) ≡ 16) × (length (now k) ≡ 16) ⌝ }
-    ensures codes { λ _. ⌜ now (k .exit) ≡ added (stepAt need first (now (v .entry))) (now (k .entry)) ⌝ }
-    ensures sixteen { λ _. ⌜ length (now (k .exit)) ≡ 16 ⌝ }
+fn steps(need: bool, first: f64, v: &[f64], mut k: [u16; 16]) -> [u16; 16]
+    requires { ⌜ (length (now v) ≡ 16) × (length k ≡ 16) ⌝ }
+    ensures codes { λ r. ⌜ r ≡ added (stepAt need first (now (v .entry))) k ⌝ }
+    ensures sixteen { λ r. ⌜ length r ≡ 16 ⌝ }
 {
     if !need {
-        return;
+        return k;
     }
     let mut u = first;
     let mut j = 0;
@@ -117,6 +126,7 @@ fn steps(need: bool, first: f64, v: &[f64], k: &mut [u16; 16])
         u = x;
         j += 1;
     }
+    k
 }
 
 // The codes of sixteen values, before the first of which u comes.
@@ -124,30 +134,29 @@ fn group(set: u16, l: Lines, u: f64, v: &[f64]) -> [u16; 16]
     requires { ⌜ length (now v) ≡ 16 ⌝ }
     ensures { λ r. ⌜ r ≡ tabulate (codeAt set l u (now (v .entry))) 16 ⌝ }
 {
-    let mut k = [0u16; 16];
-    zones(set & LIMITS != 0, l.ucl, l.lcl, 0x0001, 0x0001, v, &mut k);
-    zones(set & CENTRE != 0, l.cl, l.cl, 0x0102, 0x4200, v, &mut k);
-    zones(
+    let none = [0u16; 16];
+    let limits = zones(set & LIMITS != 0, l.ucl, l.lcl, 0x0001, 0x0001, v, none);
+    let centre = zones(set & CENTRE != 0, l.cl, l.cl, 0x0102, 0x4200, v, limits);
+    let two = zones(
         set & TWO_SIGMA != 0,
         l.above2,
         l.below2,
         0x0010,
         0x1000,
         v,
-        &mut k,
+        centre,
     );
-    zones(
+    let one = zones(
         set & ONE_SIGMA != 0,
         l.above1,
         l.below1,
         0x00a0,
         0x2080,
         v,
-        &mut k,
+        two,
     );
-    insides(set & INSIDE != 0, l.above1, l.below1, v, &mut k);
-    steps(set & STEPS != 0, u, v, &mut k);
-    k
+    let inside = insides(set & INSIDE != 0, l.above1, l.below1, v, one);
+    steps(set & STEPS != 0, u, v, inside)
 }
 
 // Up to sixteen values at the front of sixteen.
@@ -234,7 +243,7 @@ fn pack(
     two: u16,
     four: u16,
 ) -> u16
-    ensures { λ r. ⌜ r ≡ fromBits (hasBit c0 0 ∷ (hasBit all9 1 || hasBit all9 9) ∷ (hasBit all5 2 || hasBit all5 10) ∷ hasBit turns 3 ∷ (hasBit two 4 || hasBit two 12) ∷ (hasBit four 5 || hasBit four 13) ∷ hasBit all15 6 ∷ hasBit all8 7 ∷ (hasBit all8 8 || hasBit all8 14) ∷ []) ⌝ }
+    ensures { λ r. ⌜ r ≡ fromBits (packedBits c0 all5 all8 all9 all15 turns two four) ⌝ }
 {
     let pairs = (((all9 & 0x0202) | (all5 & 0x0404)) | (two & 0x1010)) | (four & 0x2020);
     let folded = (pairs | (pairs >> 8)) & 0x0036;

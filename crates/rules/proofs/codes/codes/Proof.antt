@@ -1,5 +1,4 @@
 -- `rules::codes::codes` meets its contract: up to sixteen codes at a time. Assumes nothing.
-use mathlib.Core.Path.{refl, _∙_}
 use Prim.Native.Nat.{_+_, _-_, _≤_}
 use native.Mathlib.Omega.{arith}
 use borrow.Author.Needs.{needs}

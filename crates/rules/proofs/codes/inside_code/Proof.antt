@@ -4,12 +4,9 @@ use Rattle.rules.specs.Codes.{insideCode}
 use Rattle.rules.proofs.codes.inside_code.Statement.{statement}
 use Rattle.rules.proofs.codes.inside_code.Tie as tie
 
-pick-requires : tie.Need-pick-requires
-pick-requires c κs = search needs
-
 returns : tie.Need-returns
 unfolding insideCode
 returns c = c .pick .ensures
 
 pub inside-code-spec : {M : Type 1} → statement M
-inside-code-spec = tie.close (tie.spec pick-requires returns)
+inside-code-spec = tie.close (tie.spec (λ c κs. search needs) returns)

@@ -6,20 +6,9 @@ use Rattle.rules.specs.Codes.{stepCode}
 use Rattle.rules.proofs.codes.step_code.Statement.{statement}
 use Rattle.rules.proofs.codes.step_code.Tie as tie
 
-pick-requires : tie.Need-pick-requires
-pick-requires c κs = search needs
-
-pick-requires-2 : tie.Need-pick-requires-2
-pick-requires-2 c κs = search needs
-
 returns : tie.Need-returns
 unfolding stepCode
 returns c = ap₂ bitOr (c .before .pick .ensures) (c .pick2 .ensures)
 
 pub step-code-spec : {M : Type 1} → statement M
-step-code-spec =
-    tie.close
-    (tie.spec
-    pick-requires
-    pick-requires-2
-    returns)
+step-code-spec = tie.close (tie.spec (λ c κs. search needs) (λ c κs. search needs) returns)

@@ -23,12 +23,12 @@ abbrev μ-loop : tie.MeasureT-loop
 returns : tie.Need-returns Inv-loop μ-loop
 returns c =
     let off : c .before .before .args .need ≡ false = not-true _ (c .if1 .taken) in
-    (rw off (added-none (c .before .before .args .k .now) (c .before .before .pre .1)), c .before .before .pre .1)
+    (rw off (added-none _ (c .before .before .pre .1)), c .before .before .pre .1)
 
 loop-again : tie.Need-loop-again Inv-loop μ-loop
 loop-again c =
-    let now = c .before .before .before .before .loop .inv in (
-      adding-goes-on _ _ _ _ (now .0) (c .step-code .result) (omega arith) (c .step-code .ensures ∙ ap (λ (u : Float). stepCode u (getD (c .before .before .before .before .before .before .before .args .v .now) (c .before .before .before .before .loop .j) nan)) (now .1)),
+    let now = c .before .before .before .loop .inv in (
+      adding-goes-on _ _ _ _ (now .0) (c .step-code .result) (omega arith) (c .step-code .ensures ∙ ap (λ (u : Float). stepCode u (getD (c .before .before .before .before .before .before .args .v .now) (c .before .before .before .loop .j) nan)) (now .1)),
       rw add-one refl,
     )
 
