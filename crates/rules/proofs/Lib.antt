@@ -2,7 +2,7 @@
 mod Windows
 pub mod Columns
 mod Bitwise
-mod Adding
+mod Making
 mod Parts
 mod Signs
 mod Marks

@@ -1,7 +1,7 @@
 -- The marks that are read off the codes of a block are its marks: from the fifteenth value on as they are, before it where the window
 -- fits. Assumes nothing.
-use mathlib.Core.Path.{_≡_, refl, sym, ap, ap₂, _∙_}
-use mathlib.Core.Bool.{Bool, true, false}
+use mathlib.Core.Path.{_≡_, refl, sym, ap, ap₂, _∙_, fun-ext}
+use mathlib.Core.Bool.{Bool, true, false, _&&_, _||_}
 use mathlib.Core.List.{List, _++_, append-assoc}
 use Prim.Native.Nat.{ℕ, zero, suc, _+_, _-_, _≤_, _<_}
 use native.Mathlib.Nat.{le-of-suc-le-suc}
@@ -12,16 +12,20 @@ use lib.Dec.{ltb}
 use lib.Ieee.{Float, nan}
 use lib.ListN.{length, take, drop, getD, length-drop, List·getD-append, take-append-drop}
 use lib.Seq.{ext-getD, getD-append-add, getD-drop, length-take-le, drop-append-le}
-use Rattle.laws.specs.Bits.{fromBits}
+use Rattle.laws.specs.Bits.{hasBit, fromBits}
 use Rattle.laws.specs.Lists.{tabulateFrom, tabulate}
 use Rattle.laws.specs.Front.{atFront}
 use Rattle.laws.proofs.Lists.{length-tabulate, getD-tabulate, same-tabulate, take-tabulate}
 use Rattle.laws.proofs.Lending.{lent, regained}
-use Rattle.sets.specs.Sets.{bitOf, tests, setOf}
+use Rattle.laws.proofs.Bits.{has-and}
+use Rattle.laws.proofs.OneBit.{no-bit}
+use Rattle.sets.specs.declared.Test.{Test}
+use Rattle.sets.specs.Sets.{bitOf, tests, has, setOf}
+use Rattle.sets.proofs.Sets.{agree, and-setOf}
 use Rattle.rules.specs.declared.Lines.{Lines}
 use Rattle.rules.specs.Tests.{window}
 use Rattle.rules.specs.Marking.{newestFirst, marksAt}
-use Rattle.rules.specs.Columns.{fitting}
+use Rattle.rules.specs.Columns.{judge, ruleOf, readOff, fitting}
 use Rattle.rules.specs.Codes.{codeAt, codesOf, lastOf, column, downBit, readCodes, marksRead, fitsAt}
 use Rattle.rules.proofs.Columns.{reads-marks, reads-far}
 use Rattle.rules.proofs.Signs.{length-newest, codes-show}
@@ -70,6 +74,37 @@ module _ (f g h : ℕ → ℕ) (k n : ℕ) (old : List ℕ) (few : k ≤ n)
       ∙ ap₂ _++_ front (drop-append-le k (tabulate g n) rest (omega (arith, length-tabulate g n)) ∙ ap (λ (xs : List ℕ). xs ++ rest) back)
       ∙ sym (append-assoc (take k (tabulate h n)) (drop k (tabulate h n)) rest)
       ∙ ap₂ (λ (xs : List ℕ) (m : ℕ). xs ++ drop m old) (take-append-drop k (tabulate h n)) (length-tabulate g n ∙ sym (length-tabulate h n))
+
+-- ---- a set of runs alone
+
+-- of two masks that have every test together, the second of which shares none with the set, the first leaves it as it is
+masked : (a b c : Bool) → (b || c) ≡ true → (a && c) ≡ false → (a && b) ≡ a
+masked false b c h q = refl
+masked true true c h q = refl
+masked true false c h q = sym q ∙ h
+
+module _ (set : ℕ) (none : bitAnd set 56 ≡ 0) where
+  has-runs : (t : Test) → has (bitAnd set 455) t ≡ has set t
+  unfolding has
+  has-runs t =
+      has-and set 455 (bitOf t)
+      ∙ masked (hasBit set (bitOf t)) (hasBit 455 (bitOf t)) (hasBit 56 (bitOf t)) either (sym (has-and set 56 (bitOf t)) ∙ ap (λ (n : ℕ). hasBit n (bitOf t)) none ∙ no-bit (bitOf t))
+    where
+      either : (hasBit 455 (bitOf t) || hasBit 56 (bitOf t)) ≡ true
+      either = unfold tests bitOf hasBit in agree (λ (u : Test). hasBit 455 (bitOf u) || hasBit 56 (bitOf u)) (λ (u : Test). true) true refl t
+
+  same-runs : (cs : List ℕ) (i : ℕ) → marksRead (bitAnd set 455) cs i ≡ marksRead set cs i
+  same-runs cs i =
+      let p : Test → Bool = λ t. judge (ruleOf t) (column (bitOf t) (lastOf cs i 15)) (column (downBit t) (lastOf cs i 15)) in
+      let read : (m : ℕ) → marksRead m cs i ≡ bitAnd m (setOf p) = λ m. unfold marksRead readCodes readOff setOf in refl in
+      read (bitAnd set 455)
+      ∙ and-setOf (bitAnd set 455) p
+      ∙ ap setOf (fun-ext (λ t. ap (λ (b : Bool). b && p t) (has-runs t)))
+      ∙ sym (and-setOf set p)
+      ∙ sym (read set)
+
+  pub runs-read : (cs old out : List ℕ) (m : ℕ) → out ≡ atFront (tabulate (marksRead (bitAnd set 455) cs) m) old → out ≡ atFront (tabulate (marksRead set cs) m) old
+  runs-read cs old out m e = e ∙ ap (λ (f : ℕ → ℕ). atFront (tabulate f m) old) (fun-ext (same-runs cs))
 
 -- ---- the codes in their room
 

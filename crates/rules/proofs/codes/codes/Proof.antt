@@ -6,7 +6,7 @@ use lib.Ieee.{nan}
 use lib.ListN.{length, getD}
 use Rattle.laws.proofs.Filling.{Tabling, tabling-starts, tabling-length, tabling-ends}
 use Rattle.rules.specs.Codes.{codeAt, codesOf}
-use Rattle.rules.proofs.Adding.{codes-part}
+use Rattle.rules.proofs.Making.{codes-part}
 use Rattle.rules.proofs.Parts.{part-long, part-start, part-room, part-fills}
 use Rattle.rules.proofs.codes.codes.Statement.{statement}
 use Rattle.rules.proofs.codes.codes.Tie as tie

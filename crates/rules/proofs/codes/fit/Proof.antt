@@ -7,7 +7,7 @@ use lib.Bits.{bitAnd}
 use lib.ListN.{getD}
 use Rattle.laws.proofs.Filling.{Tabling, tabling-starts, tabling-length, tabling-room, tabling-goes-on, tabling-ends}
 use Rattle.rules.specs.Codes.{fitsAt}
-use Rattle.rules.proofs.Adding.{tabling-next}
+use Rattle.rules.proofs.Making.{tabling-next}
 use Rattle.rules.proofs.codes.fit.Statement.{statement}
 use Rattle.rules.proofs.codes.fit.Tie as tie
 

@@ -1,6 +1,6 @@
 -- `rules::codes::group` meets its contract: each family puts its bits into the codes. Assumes nothing.
 use borrow.Author.Needs.{needs}
-use Rattle.rules.proofs.Adding.{codes-by}
+use Rattle.rules.proofs.Making.{codes-by}
 use Rattle.rules.proofs.codes.group.Statement.{statement}
 use Rattle.rules.proofs.codes.group.Tie as tie
 

@@ -2,7 +2,7 @@
 use mathlib.Core.Path.{refl}
 use borrow.Author.Needs.{needs}
 use lib.ListN.{take}
-use Rattle.rules.proofs.Adding.{first-codes, padded}
+use Rattle.rules.proofs.Making.{first-codes, padded}
 use Rattle.rules.proofs.codes.next_codes.Statement.{statement}
 use Rattle.rules.proofs.codes.next_codes.Tie as tie
 

@@ -1,36 +1,25 @@
--- `rules::codes::read_marks` meets its contract: the marks are written one after the other. Assumes nothing.
-use mathlib.Core.Path.{ap}
-use Prim.Native.Nat.{_-_}
+-- `rules::codes::read_marks` meets its contract: a set of runs alone has the marks of its runs. Assumes nothing.
+use mathlib.Core.Path.{_≡_}
 use native.Mathlib.Omega.{arith}
 use borrow.Author.Needs.{needs}
 use lib.Bits.{bitAnd}
-use Rattle.laws.proofs.Filling.{Tabling, tabling-starts, tabling-length, tabling-room, tabling-goes-on, tabling-ends}
-use Rattle.rules.specs.Codes.{marksRead}
+use Rattle.rules.proofs.Marks.{runs-read}
 use Rattle.rules.proofs.codes.read_marks.Statement.{statement}
 use Rattle.rules.proofs.codes.read_marks.Tie as tie
 
-abbrev Inv-loop : tie.InvT-loop
-Inv-loop set c m out₀ i₀ out i = Tabling (marksRead set c) m out₀ out i
-
-abbrev μ-loop : tie.MeasureT-loop
-μ-loop set c m out₀ i₀ out i = m - i
-
-loop-again : tie.Need-loop-again Inv-loop μ-loop
-unfolding marksRead
-loop-again c = tabling-goes-on _ _ _ _ _ (c .before .before .loop .inv) _ (c .before .loop-test .taken) (ap (bitAnd (c .before .before .before .before .before .args .set)) (c .standing-at .ensures))
+returns-2 : tie.Need-returns-2
+returns-2 c =
+    let s = c .before .before .before .before .before .before .before .args in
+    let none : bitAnd (s .set) 56 ≡ 0 = omega arith in
+    runs-read (s .set) none _ _ _ _ (c .before .before .read-runs .ensures)
 
 pub read-marks-spec : {M : Type 1} → statement M
 read-marks-spec =
     tie.close
     (tie.spec
-    Inv-loop
-    μ-loop
-    (λ c. tabling-starts _ _ _ (c .before .before .pre .1))
-    (λ c κs. omega arith)
-    (λ c. omega (arith, tabling-room _ _ _ _ _ (c .before .before .loop .inv) (c .before .loop-test .taken)))
-    (λ c. tabling-room _ _ _ _ _ (c .before .before .loop .inv) (c .before .loop-test .taken))
+    (λ c κs. search needs)
     (λ c. search needs)
     (λ c. search needs)
-    loop-again
-    (λ c. tabling-length _ _ _ _ _ (c .before .loop .inv))
-    (λ c. tabling-ends _ _ _ _ _ (c .before .loop .inv) (c .loop-test .left)))
+    (λ c κs. search needs)
+    (λ c. search needs)
+    returns-2)

@@ -10,7 +10,7 @@ use borrow.Author.Tests.{not-true, not-false}
 use lib.Ieee.{Float, nan}
 use lib.ListN.{length, getD}
 use Rattle.rules.specs.Codes.{stepAt, stepCode}
-use Rattle.rules.proofs.Adding.{Adding, adding-starts, adding-goes-on, adding-ends, length-added, added-none}
+use Rattle.rules.proofs.Making.{Adding, adding-starts, adding-goes-on, adding-ends, length-added, added-none}
 use Rattle.rules.proofs.codes.steps.Statement.{statement}
 use Rattle.rules.proofs.codes.steps.Tie as tie
 

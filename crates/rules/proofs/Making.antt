@@ -1,5 +1,5 @@
--- Sixteen codes into each of which something is put, one after the other: the invariant of the loops that make codes; and what all
--- families put into them. Assumes nothing.
+-- Making codes: sixteen into each of which something is put, the invariant of the loops that make them; what all families put into them;
+-- and the codes of a series, some at a time. Assumes nothing.
 use mathlib.Core.Path.{_≡_, refl, sym, ap, ap₂, _∙_}
 use mathlib.Core.List.{List, _∷_, _++_, append-nil}
 use Prim.Native.Nat.{ℕ, zero, suc, _+_, _≤_, _<_}
