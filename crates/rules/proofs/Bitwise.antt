@@ -114,7 +114,10 @@ module _ (c0 all5 all8 all9 all15 turns two four : ℕ) where
       (less all8 128 (omega arith)))
       (less (bitOr all8 (all8 / 2 ^ 6)) 256 (omega arith))
 
-  bits : hasBit packed 0 ∷ hasBit packed 1 ∷ hasBit packed 2 ∷ hasBit packed 3 ∷ hasBit packed 4 ∷ hasBit packed 5 ∷ hasBit packed 6 ∷ hasBit packed 7 ∷ hasBit packed 8 ∷ []
+  abbrev has-at : ℕ → Bool
+  has-at k = hasBit packed k
+
+  bits : has-at 0 ∷ has-at 1 ∷ has-at 2 ∷ has-at 3 ∷ has-at 4 ∷ has-at 5 ∷ has-at 6 ∷ has-at 7 ∷ has-at 8 ∷ []
       ≡ packedBits c0 all5 all8 all9 all15 turns two four
   bits =
       nine

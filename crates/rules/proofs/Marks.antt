@@ -88,7 +88,8 @@ module _ (set : ℕ) (none : bitAnd set 56 ≡ 0) where
   unfolding has
   has-runs t =
       has-and set 455 (bitOf t)
-      ∙ masked (hasBit set (bitOf t)) (hasBit 455 (bitOf t)) (hasBit 56 (bitOf t)) either (sym (has-and set 56 (bitOf t)) ∙ ap (λ (n : ℕ). hasBit n (bitOf t)) none ∙ no-bit (bitOf t))
+      ∙ masked (hasBit set (bitOf t)) (hasBit 455 (bitOf t)) (hasBit 56 (bitOf t)) either
+      (sym (has-and set 56 (bitOf t)) ∙ ap (λ (n : ℕ). hasBit n (bitOf t)) none ∙ no-bit (bitOf t))
     where
       either : (hasBit 455 (bitOf t) || hasBit 56 (bitOf t)) ≡ true
       either = unfold tests bitOf hasBit in agree (λ (u : Test). hasBit 455 (bitOf u) || hasBit 56 (bitOf u)) (λ (u : Test). true) true refl t

@@ -18,7 +18,8 @@ part-long xs i e h = length-take-le (e - i) (drop i xs) (omega (arith, length-dr
 -- the m entries from i on of a table are a table
 table-part : (f g : ℕ → ℕ) (n i m : ℕ) → i + m ≤ n → ((j : ℕ) → j < m → g j ≡ f (i + j)) → tabulate g m ≡ take m (drop i (tabulate f n))
 table-part f g n i m h same =
-    let long : length (take m (drop i (tabulate f n))) ≡ m = length-take-le m (drop i (tabulate f n)) (omega (arith, length-drop i (tabulate f n), length-tabulate f n)) in
+    let long : length (take m (drop i (tabulate f n))) ≡ m =
+    length-take-le m (drop i (tabulate f n)) (omega (arith, length-drop i (tabulate f n), length-tabulate f n)) in
     ext-getD 0 (tabulate g m) (take m (drop i (tabulate f n))) (length-tabulate g m ∙ sym long) (λ j q.
     let small : j < m = omega (arith, length-tabulate g m) in
     getD-tabulate g m j 0 small

@@ -9,11 +9,14 @@ use Rattle.rules.proofs.codes.block.Tie as tie
 
 returns : tie.Need-returns
 returns c =
-    let s = c .before .before .before .before .before .before .before .before .before .before .before .before .before .before .before .before .before in
     let k = c .before .before .before .before .least .ensures in
-    let there = codes-there (s .args .set) (s .args .l) (s .args .values .now) (s .args .c .now) _ _ (omega arith) (c .before .before .before .before .before .before .before .before .before .before .before .before .codes .ensures) in
-    block-marks (s .args .set) (s .args .l) (s .args .values .now) (s .args .p) _ (s .pre .0) there _ _ _ _ _ refl (k .1) (omega (arith, k .0)) (k .2)
-    (c .before .before .before .before .before .before .before .read-marks .ensures) (c .before .before .fit .ensures)
+    let read = c .before .before .before .before .before .before .before in
+    let made = read .before .before .before .before .before in
+    let s = made .before .before .before .before .before in
+    let vs = s .args .values .now in
+    let there = codes-there (s .args .set) (s .args .l) vs (s .args .c .now) _ _ (omega arith) (made .codes .ensures) in
+    block-marks (s .args .set) (s .args .l) vs (s .args .p) _ (s .pre .0) there _ _ _ _ _ refl (k .1) (omega (arith, k .0)) (k .2)
+    (read .read-marks .ensures) (c .before .before .fit .ensures)
 
 pub block-spec : {M : Type 1} → statement M
 block-spec =

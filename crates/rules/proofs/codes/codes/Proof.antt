@@ -33,8 +33,9 @@ loop-again c =
     let m = c .before .before .before .before .before .before .least in
     let some : at .loop .i + m .result ≤ length (s .values .now) = omega (arith, m .ensures .0) in
     let long = part-long (s .values .now) (at .loop .i) (at .loop .i + m .result) some in
+    let i = at .loop .i in
     part-fills _ _ _ _ _ (at .loop .inv) (m .result) some _
-    (λ j h. codes-part (s .set) (s .l) (s .values .now) _ (at .loop .i) (at .loop .i + m .result - at .loop .i) (c .before .before .before .before .before .before2 .ensures) j (omega arith))
+    (λ j h. codes-part (s .set) (s .l) (s .values .now) _ i (i + m .result - i) (c .before .before .before .before .before .before2 .ensures) j (omega arith))
     _ _ (omega (arith, long)) (c .before .before .next-codes .ensures)
 
 returns : tie.Need-returns Inv-loop μ-loop

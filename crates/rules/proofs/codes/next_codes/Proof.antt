@@ -9,13 +9,18 @@ use Rattle.rules.proofs.codes.next_codes.Tie as tie
 returns : tie.Need-returns
 returns c =
     let s = c .before .before .before .before .before .before .before .before .before in
-    first-codes (s .args .set) (s .args .l) (s .args .u) (s .args .values .now) (s .args .values .now) _ (s .pre .0) (λ j h. refl) _ _ _ (c .before .before .before .before .before .group .ensures) (c .before .before .put .ensures)
+    let vs = s .args .values .now in
+    let k = c .before .before .before .before .before .group in
+    first-codes (s .args .set) (s .args .l) (s .args .u) vs vs _ (s .pre .0) (λ j h. refl) _ _ _ (k .ensures) (c .before .before .put .ensures)
 
 returns-2 : tie.Need-returns-2
 returns-2 c =
-    let s = c .before .before .before .before .before .before .before .before .before .before .before .before .before in
-    let pad = c .before .before .before .before .before .before .before .before .pad in
-    first-codes (s .args .set) (s .args .l) (s .args .u) (take 16 (pad .last .1 .0)) (s .args .values .now) _ (s .pre .0) (padded (s .args .values .now) _ _ (s .pre .0) (pad .ensures .0)) _ _ _ (c .before .before .before .before .before .group2 .ensures) (c .before .before .put2 .ensures)
+    let k = c .before .before .before .before .before in
+    let pad = k .before .before .before .pad in
+    let s = k .before .before .before .before .before .before .before .before in
+    let vs = s .args .values .now in
+    first-codes (s .args .set) (s .args .l) (s .args .u) (take 16 (pad .last .1 .0)) vs _ (s .pre .0)
+    (padded vs _ _ (s .pre .0) (pad .ensures .0)) _ _ _ (k .group2 .ensures) (c .before .before .put2 .ensures)
 
 pub next-codes-spec : {M : Type 1} → statement M
 next-codes-spec =

@@ -27,8 +27,9 @@ returns c =
 
 loop-again : tie.Need-loop-again Inv-loop μ-loop
 loop-again c =
-    let now = c .before .before .before .loop .inv in (
-      adding-goes-on _ _ _ _ (now .0) (c .step-code .result) (omega arith) (c .step-code .ensures ∙ ap (λ (u : Float). stepCode u (getD (c .before .before .before .before .before .before .args .v .now) (c .before .before .before .loop .j) nan)) (now .1)),
+    let at = c .before .before .before .loop in
+    let v = getD (c .before .before .before .before .before .before .args .v .now) (at .j) nan in (
+      adding-goes-on _ _ _ _ (at .inv .0) (c .step-code .result) (omega arith) (c .step-code .ensures ∙ ap (λ (u : Float). stepCode u v) (at .inv .1)),
       rw add-one refl,
     )
 
