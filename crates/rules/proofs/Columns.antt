@@ -102,10 +102,6 @@ module _ (l : Lines) (past : List Float) (ups downs : Test → List Bool) where
   abbrev reads : Test → Bool
   reads t = judge (ruleOf t) (ups t) (downs t)
 
-  -- Reading columns: the tests that fit and are read off are those that stand.
-  pub reads-all : Columns (λ t. true) → map (λ t. leb (window t) (length past) && reads t) tests ≡ map (stands l past) tests
-  reads-all given = ap (λ (p : Test → Bool). map p tests) (fun-ext (λ t. judged l past t (ups t) (downs t) (given t refl .0) (given t refl .1)))
-
   module _ (set : ℕ) (given : Columns (has set)) where
     row : fromBits (readOff ups downs) ≡ setOf reads
     unfolding readOff setOf

@@ -4,7 +4,7 @@ use mathlib.Core.Path.{_≡_, sym, ap, _∙_}
 use mathlib.Core.List.{List, _++_}
 use Prim.Native.Nat.{ℕ, _+_, _-_, _≤_, _<_}
 use native.Mathlib.Omega.{arith}
-use lib.ListN.{length, take, drop, length-append, length-drop, take-append-drop}
+use lib.ListN.{length, take, drop, length-drop, take-append-drop}
 use lib.Seq.{ext-getD, getD-take, getD-drop, length-take-le}
 use Rattle.laws.specs.Lists.{tabulate}
 use Rattle.laws.specs.Front.{atFront}
@@ -42,19 +42,3 @@ module _ (f : ℕ → ℕ) (n : ℕ) (old now : List ℕ) (i : ℕ) (t : Tabling
       let next : drop i (tabulate f n) ≡ tabulate g m ++ rest =
       sym (take-append-drop m (drop i (tabulate f n))) ∙ ap (λ (xs : List ℕ). xs ++ rest) (sym (table-part f g n i m h same)) in
       lent-fills (tabulate f n) old now i t (tabulate g m) rest next part m (e ∙ ap (λ (x : ℕ). atFront (tabulate g x) (lent now i)) count) (sym (length-tabulate g m))
-
--- a slice whose lent part kept its length has kept its own
-pub regained-length : (now : List ℕ) (i : ℕ) (part : List ℕ) → i ≤ length now → length part ≡ length (lent now i) → length (regained now i part) ≡ length now
-regained-length now i part h same =
-    let rest : length (lent now i) ≡ length now - i = part-long now i (length now) (omega arith) in
-    omega (
-      arith,
-      length-append (take i now) (part ++ drop (length now - i) (drop i now)),
-      length-append part (drop (length now - i) (drop i now)),
-      length-take-le i now h,
-      length-drop i now,
-      length-drop (length now - i) (drop i now),
-    )
-
-pub front-length : (xs old : List ℕ) → length xs ≤ length old → length (atFront xs old) ≡ length old
-front-length xs old h = omega (arith, length-append xs (drop (length xs) old), length-drop (length xs) old)

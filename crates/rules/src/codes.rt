@@ -214,6 +214,7 @@ fn before(values: &[f64], i: usize) -> f64
     values[i - 1]
 }
 
+// The smaller of two.
 fn least(a: usize, b: usize) -> usize
     ensures { λ r. ⌜ (r ≤ a) × (r ≤ b) × ((i : ℕ) → i < a → i < b → i < r) ⌝ }
 {
@@ -337,6 +338,7 @@ fn read_runs(set: u16, c: &[u16], m: usize, out: &mut [u16])
     }
 }
 
+// The marks of m positions, with no more worked out than the set has need of.
 fn read_marks(set: u16, c: &[u16], m: usize, out: &mut [u16])
     requires { ⌜ (m + 14 ≤ length (now c)) × (m ≤ length (now out)) ⌝ }
     ensures { λ _. ⌜ now (out .exit) ≡ atFront (tabulate (marksRead set (now (c .entry))) m) (now (out .entry)) ⌝ }
@@ -406,6 +408,7 @@ fn blocks(l: Lines, set: u16, values: &[f64], most: usize, c: &mut [u16], out: &
     }
 }
 
+// The same for few values, so that little room has to be cleared.
 fn mark_few(l: Lines, set: u16, values: &[f64], out: &mut [u16])
     requires { ⌜ length (now values) ≤ length (now out) ⌝ }
     ensures { λ _. ⌜ now (out .exit) ≡ atFront (marksBy l set (now (values .entry))) (now (out .entry)) ⌝ }
@@ -414,6 +417,7 @@ fn mark_few(l: Lines, set: u16, values: &[f64], out: &mut [u16])
     blocks(l, set, values, 50, &mut c[0..64], out);
 }
 
+// The same for many: a block and its codes stay in the nearest cache.
 fn mark_many(l: Lines, set: u16, values: &[f64], out: &mut [u16])
     requires { ⌜ length (now values) ≤ length (now out) ⌝ }
     ensures { λ _. ⌜ now (out .exit) ≡ atFront (marksBy l set (now (values .entry))) (now (out .entry)) ⌝ }
