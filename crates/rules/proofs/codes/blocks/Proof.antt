@@ -25,7 +25,7 @@ block-requires c κs =
     let m = c .before .before .before .least2 in
     let some : at .at + m .result ≤ length (s .args .values .now) = omega (arith, m .ensures .0) in
     let long = part-long (s .args .values .now) (at .at - p .result) (at .at + m .result) some in (
-      p .ensures .1,
+      omega (arith, p .ensures .1),
       omega (arith, long, p .ensures .0),
       omega (arith, long, p .ensures .0, m .ensures .1, s .pre .1, at .inv .1),
       omega (arith, long, p .ensures .0, part-room _ _ _ _ _ (at .inv .0) (m .result) some),
@@ -74,4 +74,4 @@ blocks-spec =
     loop-again
     (λ c. search needs)
     (λ c. tabling-length _ _ _ _ _ (c .before .loop .inv .0))
-    (λ c. tabling-ends _ _ _ _ _ (c .before .loop .inv .0) (c .loop-test .left)))
+    (λ c. tabling-ends _ _ _ _ _ (c .before .loop .inv .0) (omega arith)))
