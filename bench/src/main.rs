@@ -22,6 +22,8 @@ fn main() {
     let word = std::env::args().nth(1);
     let turns = word.and_then(|w| w.parse().ok()).expect("a number of turns");
     marking_values(turns);
+    single_tests(turns);
+    short_series(turns);
     marking_bytes(turns);
     sheets(turns);
     roots(turns);
@@ -58,6 +60,85 @@ fn marking_values(turns: usize) {
         )
         .map(|t| t / POINTS as f64);
         println!("{name:<36}{mine:>8.2}{theirs:>16.2}{:>8.2}", mine / theirs);
+    }
+}
+
+/// Each test alone, by the bit that it has in a set.
+const TESTS: [&str; 9] = [
+    "beyond the limits",
+    "nine on one side",
+    "six trending",
+    "fourteen alternating",
+    "two of three beyond two sigma",
+    "four of five beyond one sigma",
+    "fifteen within one sigma",
+    "eight beyond one sigma",
+    "eight on one side",
+];
+
+fn single_tests(turns: usize) {
+    println!();
+    println!("{:<36}{:>8}{:>16}{:>8}", "one test, in control, ns a point", "ours", "Rust, points", "ratio");
+    let values = data::in_control();
+    let points = rust::points_of(values.iter().copied());
+    let mut marks = vec![0; POINTS];
+    for (bit, name) in TESTS.iter().enumerate() {
+        let set = 1 << bit;
+        let rules = rust::set_of(set);
+        assert_eq!(ours::mark_values(&values, set, &mut marks), 0);
+        assert_eq!(marks, rust::marks_of(&rust::mark(&points, rules), POINTS), "marks differ: {name}");
+
+        let [mine, theirs] = medians(
+            turns,
+            [&mut || keep(ours::mark_values(opaque(&values), set, &mut marks)), &mut || {
+                keep(rust::mark(opaque(&points), rules))
+            }],
+        )
+        .map(|t| t / POINTS as f64);
+        println!("{name:<36}{mine:>8.2}{theirs:>16.2}{:>8.2}", mine / theirs);
+    }
+}
+
+/// What a whole call takes on a chart of few points: by values, and through the boundary.
+fn short_series(turns: usize) {
+    println!();
+    println!(
+        "{:<36}{:>8}{:>16}{:>8}{:>10}{:>8}{:>10}{:>10}",
+        "few points, nelson, ns a call",
+        "ours",
+        "Rust, points",
+        "ratio",
+        "bytes",
+        "ratio",
+        "checking",
+        "writing"
+    );
+    for n in [1, 8, 25, 100] {
+        let values = &data::in_control()[..n];
+        let bytes = data::bytes_of(values);
+        let (points, rules) = (rust::points_of(values.iter().copied()), rust::set_of(NELSON));
+        let (mut marks, mut marked, mut room) = (vec![0; n], vec![0; 2 * n], vec![0; 8 * n + 64]);
+        assert_eq!(ours::mark_values(values, NELSON, &mut marks), 0);
+        assert_eq!(marks, rust::marks_of(&rust::mark(&points, rules), n), "marks differ: {n} points");
+        let answer = ours::write(&bytes, NELSON, &mut room);
+        assert_eq!(answer & 0xff, 0);
+        let sheet = room[..(answer >> 8) as usize].to_vec();
+        assert_eq!(ours::check(&bytes, NELSON, &sheet), 0, "the sheet is refused: {n} points");
+
+        let [mine, theirs, from_bytes, checking, writing] = medians(
+            turns,
+            [
+                &mut || keep(ours::mark_values(opaque(values), NELSON, &mut marks)),
+                &mut || keep(rust::mark(opaque(&points), rules)),
+                &mut || keep(ours::mark(opaque(&bytes), NELSON, &mut marked)),
+                &mut || keep(ours::check(opaque(&bytes), NELSON, &sheet)),
+                &mut || keep(ours::write(opaque(&bytes), NELSON, &mut room)),
+            ],
+        );
+        let (to_values, to_bytes) = (mine / theirs, from_bytes / theirs);
+        println!(
+            "{n:<36}{mine:>8.0}{theirs:>16.0}{to_values:>8.2}{from_bytes:>10.0}{to_bytes:>8.2}{checking:>10.0}{writing:>10.0}"
+        );
     }
 }
 

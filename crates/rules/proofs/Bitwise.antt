@@ -1,17 +1,20 @@
--- The tests of a position by ands, ors and shifts of its fifteen codes, as `standing` makes them, are what is read off the codes.
--- Assumes nothing.
+-- The tests of a position by ands, ors and shifts of its fifteen codes, as `standing` and `pack` make them, are what is read off the
+-- codes. Assumes nothing.
 use mathlib.Core.Path.{_≡_, refl, sym, ap, ap₂, _∙_}
-use mathlib.Core.Bool.{Bool, true, false, _&&_, _||_, Bool·beq, and-true, and-assoc}
+use mathlib.Core.Bool.{Bool, true, false, _&&_, _||_, Bool·beq, and-true, and-assoc, or-false, or-self}
 use mathlib.Core.List.{List, [], _∷_}
-use Prim.Native.Nat.{ℕ, _/_, _^_}
-use native.Mathlib.Nat.{add-zero}
-use lib.Bits.{bitAnd, bitOr}
-use lib.Dec.{leb}
+use Prim.Native.Nat.{ℕ, _/_, _%_, _^_, _<_}
+use native.Mathlib.Omega.{arith}
+use lib.Bits.{bitAnd, bitOr, and-comm, and-le-r, or-lt}
+use lib.Dec.{leb, eqb}
 use Rattle.laws.specs.Bools.{every, count}
-use Rattle.laws.specs.Bits.{hasBit}
+use Rattle.laws.specs.Bits.{hasBit, fromBits}
 use Rattle.laws.proofs.Bools.{both}
 use Rattle.laws.proofs.Bits.{has-and, has-or, has-shr}
-use Rattle.rules.specs.Codes.{column, first, byTurns, some, readOff}
+use Rattle.laws.proofs.FirstBits.{bits-again}
+use Rattle.sets.specs.Sets.{tests, bitOf}
+use Rattle.rules.specs.Columns.{first, byTurns, some, judge, ruleOf, readOff}
+use Rattle.rules.specs.Codes.{column, downBit, packedBits, readCodes}
 
 same : (a b : Bool) → Bool·beq a b ≡ true → a ≡ b
 same true true h = refl
@@ -67,26 +70,76 @@ weave-every [] ys = refl
 weave-every (x ∷ xs) [] = and-true (x && every xs)
 weave-every (x ∷ xs) (y ∷ ys) = and-four x (every xs) y (every ys) ∙ ap (λ (b : Bool). x && (y && b)) (weave-every xs ys)
 
--- ---- a bit that is shifted down
+-- ---- the tests by their bits
 
-down : (n s : ℕ) → hasBit (n / 2 ^ s) 0 ≡ hasBit n s
-down n s = has-shr n s 0 ∙ ap (hasBit n) (add-zero s)
+-- nine and nine, one by one
+nine : {a0 a1 a2 a3 a4 a5 a6 a7 a8 b0 b1 b2 b3 b4 b5 b6 b7 b8 : Bool}
+    → a0 ≡ b0 → a1 ≡ b1 → a2 ≡ b2 → a3 ≡ b3 → a4 ≡ b4 → a5 ≡ b5 → a6 ≡ b6 → a7 ≡ b7 → a8 ≡ b8
+    → a0 ∷ a1 ∷ a2 ∷ a3 ∷ a4 ∷ a5 ∷ a6 ∷ a7 ∷ a8 ∷ [] ≡ b0 ∷ b1 ∷ b2 ∷ b3 ∷ b4 ∷ b5 ∷ b6 ∷ b7 ∷ b8 ∷ []
+nine e0 e1 e2 e3 e4 e5 e6 e7 e8 = cc
 
-either : (n s t : ℕ) → hasBit (bitOr (n / 2 ^ s) (n / 2 ^ t)) 0 ≡ (hasBit n s || hasBit n t)
-either n s t = has-or (n / 2 ^ s) (n / 2 ^ t) 0 ∙ ap₂ _||_ (down n s) (down n t)
+-- a bit of what a mask leaves; of a mask that is written out it can be seen whether it has the bit
+has-mask : (n m k : ℕ) → hasBit (bitAnd n m) k ≡ (eqb (m / 2 ^ k % 2) 1 && hasBit n k)
+unfolding hasBit
+has-mask n m k = ap (λ (x : ℕ). hasBit x k) (and-comm n m) ∙ has-and m n k
 
-both-down : (m n s t : ℕ) → hasBit (bitAnd (m / 2 ^ s) (n / 2 ^ t)) 0 ≡ (hasBit m s && hasBit n t)
-both-down m n s t = has-and (m / 2 ^ s) (n / 2 ^ t) 0 ∙ ap₂ _&&_ (down m s) (down n t)
+less : (n m : ℕ) → m < 512 → bitAnd n m < 512
+less n m h = omega (arith, and-le-r n m)
+
+join : (m n : ℕ) → m < 512 → n < 512 → bitOr m n < 512
+join m n h k = or-lt 9 m n h k
+
+module _ (c0 all5 all8 all9 all15 turns two four : ℕ) where
+  abbrev pairs : ℕ
+  pairs = bitOr (bitOr (bitOr (bitAnd all9 514) (bitAnd all5 1028)) (bitAnd two 4112)) (bitAnd four 8224)
+
+  abbrev folded : ℕ
+  folded = bitAnd (bitOr pairs (pairs / 2 ^ 8)) 54
+
+  abbrev sides : ℕ
+  sides = bitAnd (bitOr all8 (all8 / 2 ^ 6)) 256
+
+  abbrev packed : ℕ
+  packed = bitOr (bitOr (bitOr (bitOr (bitOr (bitAnd c0 1) folded) (bitAnd turns 8)) (bitAnd all15 64)) (bitAnd all8 128)) sides
+
+  packed-lt : packed < 512
+  packed-lt =
+      join _ sides
+      (join _ (bitAnd all8 128)
+      (join _ (bitAnd all15 64)
+      (join _ (bitAnd turns 8)
+      (join (bitAnd c0 1) folded (less c0 1 (omega arith)) (less (bitOr pairs (pairs / 2 ^ 8)) 54 (omega arith)))
+      (less turns 8 (omega arith)))
+      (less all15 64 (omega arith)))
+      (less all8 128 (omega arith)))
+      (less (bitOr all8 (all8 / 2 ^ 6)) 256 (omega arith))
+
+  abbrev has-at : ℕ → Bool
+  has-at k = hasBit packed k
+
+  bits : has-at 0 ∷ has-at 1 ∷ has-at 2 ∷ has-at 3 ∷ has-at 4 ∷ has-at 5 ∷ has-at 6 ∷ has-at 7 ∷ has-at 8 ∷ []
+      ≡ packedBits c0 all5 all8 all9 all15 turns two four
+  bits =
+      nine
+      (simp (has-or, has-mask, or-false))
+      (simp (has-or, has-mask, has-shr, or-false))
+      (simp (has-or, has-mask, has-shr, or-false))
+      (simp (has-or, has-mask, or-false))
+      (simp (has-or, has-mask, has-shr, or-false))
+      (simp (has-or, has-mask, has-shr, or-false))
+      (simp (has-or, has-mask, or-false))
+      (simp (has-or, has-mask, or-false))
+      (simp (has-or, has-mask, has-shr, or-false))
+
+  pub pack-is : packed ≡ fromBits (packedBits c0 all5 all8 all9 all15 turns two four)
+  pack-is = sym (bits-again 9 packed packed-lt) ∙ ap fromBits bits
 
 module _ (c0 c1 c2 c3 c4 c5 c6 c7 c8 c9 c10 c11 c12 c13 c14 : ℕ) where
   abbrev codes : List ℕ
   codes = c0 ∷ c1 ∷ c2 ∷ c3 ∷ c4 ∷ c5 ∷ c6 ∷ c7 ∷ c8 ∷ c9 ∷ c10 ∷ c11 ∷ c12 ∷ c13 ∷ c14 ∷ []
 
-  abbrev all3 : ℕ
-  all3 = bitAnd (bitAnd c0 c1) c2
-
   abbrev all5 : ℕ
-  all5 = bitAnd (bitAnd all3 c3) c4
+  all5 = bitAnd (bitAnd (bitAnd (bitAnd c0 c1) c2) c3) c4
 
   abbrev all8 : ℕ
   all8 = bitAnd (bitAnd (bitAnd all5 c5) c6) c7
@@ -103,6 +156,9 @@ module _ (c0 c1 c2 c3 c4 c5 c6 c7 c8 c9 c10 c11 c12 c13 c14 : ℕ) where
   abbrev odd : ℕ
   odd = bitAnd (bitAnd (bitAnd (bitAnd (bitAnd c1 c3) c5) c7) c9) c11
 
+  abbrev turns : ℕ
+  turns = bitOr (bitAnd even (odd / 2 ^ 8)) (bitAnd (even / 2 ^ 8) odd)
+
   abbrev two : ℕ
   two = bitOr (bitAnd c0 c1) (bitAnd c2 (bitOr c0 c1))
 
@@ -113,10 +169,6 @@ module _ (c0 c1 c2 c3 c4 c5 c6 c7 c8 c9 c10 c11 c12 c13 c14 : ℕ) where
 
   -- bit s of them, by what bit s of each code says
   module _ (s : ℕ) where
-    all3-has : hasBit all3 s ≡ first 3 (column s codes)
-    unfolding every
-    all3-has = simp (has-and, and-assoc, and-true)
-
     all5-has : hasBit all5 s ≡ first 5 (column s codes)
     unfolding every
     all5-has = simp (has-and, and-assoc, and-true)
@@ -152,28 +204,19 @@ module _ (c0 c1 c2 c3 c4 c5 c6 c7 c8 c9 c10 c11 c12 c13 c14 : ℕ) where
       odds : hasBit odd t ≡ every (hasBit c1 t ∷ hasBit c3 t ∷ hasBit c5 t ∷ hasBit c7 t ∷ hasBit c9 t ∷ hasBit c11 t ∷ [])
       odds = simp (has-and, and-assoc, and-true)
 
-  pub standing-is :
-      hasBit (c0 / 2 ^ 1) 0
-      ∷ hasBit (bitOr (all9 / 2 ^ 2) (all9 / 2 ^ 3)) 0
-      ∷ hasBit (bitOr (all5 / 2 ^ 4) (all5 / 2 ^ 5)) 0
-      ∷ hasBit (bitOr (bitAnd (even / 2 ^ 4) (odd / 2 ^ 5)) (bitAnd (even / 2 ^ 5) (odd / 2 ^ 4))) 0
-      ∷ hasBit (bitAnd all3 (bitOr (two / 2 ^ 8) (two / 2 ^ 9))) 0
-      ∷ hasBit (bitAnd all5 (bitOr (four / 2 ^ 6) (four / 2 ^ 7))) 0
-      ∷ hasBit (all15 / 2 ^ 10) 0
-      ∷ hasBit (all8 / 2 ^ 11) 0
-      ∷ hasBit (bitOr (all8 / 2 ^ 2) (all8 / 2 ^ 3)) 0
-      ∷ []
-      ≡ readOff codes
-  unfolding readOff every
-  standing-is = cc (
-    down c0 1 ∙ sym (and-true (hasBit c0 1)),
-    either all9 2 3 ∙ ap₂ _||_ (all9-has 2) (all9-has 3),
-    either all5 4 5 ∙ ap₂ _||_ (all5-has 4) (all5-has 5),
-    has-or (bitAnd (even / 2 ^ 4) (odd / 2 ^ 5)) (bitAnd (even / 2 ^ 5) (odd / 2 ^ 4)) 0
-        ∙ ap₂ _||_ (both-down even odd 4 5 ∙ turns-has 4 5) (both-down even odd 5 4 ∙ turns-has 5 4),
-    has-and all3 (bitOr (two / 2 ^ 8) (two / 2 ^ 9)) 0 ∙ ap₂ _&&_ (all3-has 0) (either two 8 9 ∙ ap₂ _||_ (two-has 8) (two-has 9)),
-    has-and all5 (bitOr (four / 2 ^ 6) (four / 2 ^ 7)) 0 ∙ ap₂ _&&_ (all5-has 0) (either four 6 7 ∙ ap₂ _||_ (four-has 6) (four-has 7)),
-    down all15 10 ∙ all15-has 10,
-    down all8 11 ∙ all8-has 11,
-    either all8 2 3 ∙ ap₂ _||_ (all8-has 2) (all8-has 3),
-  )
+  pub standing-is : packedBits c0 all5 all8 all9 all15 turns two four ≡ readCodes codes
+  unfolding readCodes readOff tests judge ruleOf bitOf downBit every
+  standing-is =
+      nine
+      (sym (or-self (hasBit c0 0 && true) ∙ and-true (hasBit c0 0)))
+      (ap₂ _||_ (all9-has 1) (all9-has 9))
+      (ap₂ _||_ (all5-has 2) (all5-has 10))
+      (has-or (bitAnd even (odd / 2 ^ 8)) (bitAnd (even / 2 ^ 8) odd) 3
+      ∙ ap₂ _||_
+      (has-and even (odd / 2 ^ 8) 3 ∙ ap (λ (b : Bool). hasBit even 3 && b) (has-shr odd 8 3) ∙ turns-has 3 11)
+      (has-and (even / 2 ^ 8) odd 3 ∙ ap (λ (b : Bool). b && hasBit odd 3) (has-shr even 8 3) ∙ turns-has 11 3))
+      (ap₂ _||_ (two-has 4) (two-has 12))
+      (ap₂ _||_ (four-has 5) (four-has 13))
+      (all15-has 6 ∙ sym (or-self (first 15 (column 6 codes))))
+      (all8-has 7 ∙ sym (or-self (first 8 (column 7 codes))))
+      (ap₂ _||_ (all8-has 8) (all8-has 14))

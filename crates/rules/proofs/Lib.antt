@@ -1,8 +1,12 @@
 -- The laws of marking.
 mod Windows
-mod ReadOff
+pub mod Columns
 mod Bitwise
+mod Making
+mod Parts
+mod Signs
 mod Marks
+pub mod Blocks
 mod Single
 pub mod ZoneLines
 pub mod Accepted

@@ -1,146 +1,179 @@
--- The marks that are read off the codes of a series, behind fourteen zeros, are the marks of the series. Assumes nothing.
-use mathlib.Core.Path.{_≡_, refl, sym, ap, ap₂, _∙_}
-use mathlib.Core.Bool.{Bool, true, false}
-use mathlib.Core.List.{List, [], _∷_, _++_, append-nil}
-use Prim.Native.Nat.{ℕ, zero, suc, _+_, _-_, _%_, _≤_, _<_}
-use native.Mathlib.Nat.{mod-eq-of-lt, le-of-eq}
+-- The marks that are read off the codes of a block are its marks: from the fifteenth value on as they are, before it where the window
+-- fits. Assumes nothing.
+use mathlib.Core.Path.{_≡_, refl, sym, ap, ap₂, _∙_, fun-ext}
+use mathlib.Core.Bool.{Bool, true, false, _&&_, _||_}
+use mathlib.Core.List.{List, _++_, append-assoc}
+use Prim.Native.Nat.{ℕ, zero, suc, _+_, _-_, _≤_, _<_}
+use native.Mathlib.Nat.{le-of-suc-le-suc}
 use native.Mathlib.Omega.{arith}
-use borrow.Author.Tests.{leb-true, leb-false}
+use borrow.Author.Tests.{ltb-true, ltb-false}
 use lib.Bits.{bitAnd}
-use lib.Dec.{leb}
+use lib.Dec.{ltb}
 use lib.Ieee.{Float, nan}
-use lib.ListN.{length, take, drop, getD, replicate, length-replicate, getD-replicate, length-append, length-drop, List·getD-append, drop-of-length-le}
-use lib.Seq.{getD-append-add, take-all, take-take, length-take-le}
-use Rattle.laws.specs.Bits.{fromBits}
-use Rattle.laws.specs.Lists.{tabulate}
+use lib.ListN.{length, take, drop, getD, length-drop, List·getD-append, take-append-drop}
+use lib.Seq.{ext-getD, getD-append-add, getD-drop, length-take-le, drop-append-le}
+use Rattle.laws.specs.Bits.{hasBit, fromBits}
+use Rattle.laws.specs.Lists.{tabulateFrom, tabulate}
 use Rattle.laws.specs.Front.{atFront}
-use Rattle.laws.proofs.Bits.{fromBits-lt}
-use Rattle.laws.proofs.Lists.{length-tabulate, getD-tabulate, same-tabulate}
+use Rattle.laws.proofs.Lists.{length-tabulate, getD-tabulate, same-tabulate, take-tabulate}
+use Rattle.laws.proofs.Lending.{lent, regained}
+use Rattle.laws.proofs.Bits.{has-and}
+use Rattle.laws.proofs.OneBit.{no-bit}
+use Rattle.sets.specs.declared.Test.{Test}
+use Rattle.sets.specs.Sets.{bitOf, tests, has, setOf}
+use Rattle.sets.proofs.Sets.{agree, and-setOf}
 use Rattle.rules.specs.declared.Lines.{Lines}
+use Rattle.rules.specs.Tests.{window}
 use Rattle.rules.specs.Marking.{newestFirst, marksAt}
-use Rattle.rules.specs.Codes.{bitsOf, codeOf, codeAt, codesOf, needsFull, narrowed, lastOf, readOff, marksRead, Room}
-use Rattle.rules.proofs.ReadOff.{lately, reads-marks}
+use Rattle.rules.specs.Columns.{judge, ruleOf, readOff, fitting}
+use Rattle.rules.specs.Codes.{codeAt, codesOf, lastOf, column, downBit, readCodes, marksRead, fitsAt}
+use Rattle.rules.proofs.Columns.{reads-marks, reads-far}
+use Rattle.rules.proofs.Signs.{length-newest, codes-show}
 
-module _ (full : Bool) (l : Lines) (values : List Float) where
-  abbrev behindZeros : List ℕ
-  behindZeros = replicate 14 0 ++ codesOf full l values
+-- ---- the last entries of a list
 
-  code-lt : (i : ℕ) → codeAt full l values i < 65536
-  unfolding codeAt codeOf bitsOf
-  code-lt i = omega (arith, fromBits-lt (bitsOf full l (getD values (i - 1) nan) (getD values i nan)))
+last-at : (cs : List ℕ) (i n k : ℕ) → k < n → getD (lastOf cs i n) k 0 ≡ getD cs (i + (n - 1 - k)) 0
+last-at cs i zero k h = absurd (omega arith)
+last-at cs i (suc zero) zero h = let e : i ≡ i + (1 - 1 - 0) = omega arith in ap (λ (j : ℕ). getD cs j 0) e
+last-at cs i (suc zero) (suc k) h = absurd (omega arith)
+last-at cs i (suc (suc n)) zero h = let e : i + suc n ≡ i + (suc (suc n) - 1 - 0) = omega arith in ap (λ (j : ℕ). getD cs j 0) e
+last-at cs i (suc (suc n)) (suc k) h =
+    let e : i + (suc n - 1 - k) ≡ i + (suc (suc n) - 1 - suc k) = omega arith in
+    last-at cs i (suc n) k (le-of-suc-le-suc h) ∙ ap (λ (j : ℕ). getD cs j 0) e
 
-  length-codes : length (codesOf full l values) ≡ length values
-  unfolding codesOf
-  length-codes = length-tabulate (codeAt full l values) (length values)
+length-last : (cs : List ℕ) (i n : ℕ) → length (lastOf cs i n) ≡ n
+length-last cs i zero = refl
+length-last cs i (suc zero) = refl
+length-last cs i (suc (suc n)) = ap suc (length-last cs i (suc n))
 
-  -- the code of the newest value, and those before it
-  lately-next : (m j : ℕ) → lately full l (suc m) (newestFirst values (suc j)) ≡ codeAt full l values j ∷ lately full l m (newestFirst values j)
-  unfolding newestFirst codeAt
-  lately-next m zero = refl
-  lately-next m (suc j) =
-      let back : j ≡ suc j - 1 = omega arith in
-      ap (λ (k : ℕ). codeOf full l (getD values k nan) (getD values (suc j) nan) ∷ lately full l m (newestFirst values (suc j))) back
+-- ---- the first fourteen positions
 
-  lately-none : (m : ℕ) → lately full l (suc m) (newestFirst values 0) ≡ 0 ∷ lately full l m (newestFirst values 0)
-  unfolding newestFirst
-  lately-none m = refl
+fits-are : (i : ℕ) → i < 14 → fitsAt i ≡ fitting (suc i)
+unfolding fitsAt fitting setOf tests fromBits window tabulateFrom
+fits-are i h = getD-tabulate (λ j. fitting (suc j)) 14 i 0 h
 
-  -- the entry at j: a zero, or the code of the value fourteen places before
-  zero-at : (j : ℕ) → j < 14 → getD behindZeros j 0 ≡ 0
-  zero-at j h = List·getD-append (replicate 14 0) (codesOf full l values) 0 j h ∙ getD-replicate 14 j 0 0 h
+-- a table whose first k entries are written anew
+module _ (f g h : ℕ → ℕ) (k n : ℕ) (old : List ℕ) (few : k ≤ n)
+    (low : (i : ℕ) → i < k → f i ≡ h i) (high : (i : ℕ) → k ≤ i → i < n → g i ≡ h i) where
+  front : tabulate f k ≡ take k (tabulate h n)
+  front = same-tabulate f h k low ∙ sym (take-tabulate h k n few)
 
-  code-at : (j : ℕ) → j < length values → getD behindZeros (14 + j) 0 ≡ codeAt full l values j
-  unfolding codesOf
-  code-at j h = getD-append-add (replicate 14 0) (codesOf full l values) j 0 ∙ getD-tabulate (codeAt full l values) (length values) j 0 h
+  back : drop k (tabulate g n) ≡ drop k (tabulate h n)
+  back = ext-getD 0 (drop k (tabulate g n)) (drop k (tabulate h n))
+      (length-drop k (tabulate g n) ∙ ap (λ (m : ℕ). m - k) (length-tabulate g n ∙ sym (length-tabulate h n)) ∙ sym (length-drop k (tabulate h n)))
+      (λ i q. let inside : k + i < n = omega (arith, length-drop k (tabulate g n), length-tabulate g n) in
+      getD-drop k (tabulate g n) i 0
+      ∙ getD-tabulate g n (k + i) 0 inside
+      ∙ high (k + i) (omega arith) inside
+      ∙ sym (getD-drop k (tabulate h n) i 0 ∙ getD-tabulate h n (k + i) 0 inside))
 
-  -- the last of m entries from i on, in front of what lies before it
-  last-next : (i m : ℕ) → lastOf behindZeros i (suc m) ≡ getD behindZeros (i + m) 0 ∷ lastOf behindZeros i m
-  last-next i zero = let e : i ≡ i + 0 = omega arith in ap (λ (j : ℕ). getD behindZeros j 0 ∷ []) e
-  last-next i (suc m) = refl
+  patched : atFront (tabulate f k) (atFront (tabulate g n) old) ≡ atFront (tabulate h n) old
+  patched =
+      let rest = drop (length (tabulate g n)) old in
+      ap (λ (m : ℕ). tabulate f k ++ drop m (tabulate g n ++ rest)) (length-tabulate f k)
+      ∙ ap₂ _++_ front (drop-append-le k (tabulate g n) rest (omega (arith, length-tabulate g n)) ∙ ap (λ (xs : List ℕ). xs ++ rest) back)
+      ∙ sym (append-assoc (take k (tabulate h n)) (drop k (tabulate h n)) rest)
+      ∙ ap₂ (λ (xs : List ℕ) (m : ℕ). xs ++ drop m old) (take-append-drop k (tabulate h n)) (length-tabulate g n ∙ sym (length-tabulate h n))
 
-  -- the m entries from i on are the codes of the m positions that end fourteen places before i + m
-  ending : (i m : ℕ) → i + m ≤ length values + 14 → lastOf behindZeros i m ≡ lately full l m (newestFirst values (i + m - 14))
-  ending i zero h = refl
-  ending i (suc m) h = by (leb 14 (i + m)) refl (ending i m (omega arith))
+-- ---- a set of runs alone
+
+-- of two masks that have every test together, the second of which shares none with the set, the first leaves it as it is
+masked : (a b c : Bool) → (b || c) ≡ true → (a && c) ≡ false → (a && b) ≡ a
+masked false b c h q = refl
+masked true true c h q = refl
+masked true false c h q = sym q ∙ h
+
+module _ (set : ℕ) (none : bitAnd set 56 ≡ 0) where
+  has-runs : (t : Test) → has (bitAnd set 455) t ≡ has set t
+  unfolding has
+  has-runs t =
+      has-and set 455 (bitOf t)
+      ∙ masked (hasBit set (bitOf t)) (hasBit 455 (bitOf t)) (hasBit 56 (bitOf t)) either
+      (sym (has-and set 56 (bitOf t)) ∙ ap (λ (n : ℕ). hasBit n (bitOf t)) none ∙ no-bit (bitOf t))
     where
-      by : (t : Bool) → leb 14 (i + m) ≡ t → lastOf behindZeros i m ≡ lately full l m (newestFirst values (i + m - 14))
-          → lastOf behindZeros i (suc m) ≡ lately full l (suc m) (newestFirst values (i + suc m - 14))
-      by true t before =
-          let far : 14 ≤ i + m = leb-true 14 (i + m) t in
-          let j = i + m - 14 in
-          let here : i + m ≡ 14 + j = omega arith in
-          let next : suc j ≡ i + suc m - 14 = omega arith in
-          last-next i m
-          ∙ ap₂ _∷_ (ap (λ (k : ℕ). getD behindZeros k 0) here ∙ code-at j (omega arith)) before
-          ∙ sym (lately-next m j)
-          ∙ ap (λ (n : ℕ). lately full l (suc m) (newestFirst values n)) next
-      by false t before =
-          let near : i + m < 14 = leb-false 14 (i + m) t in
-          let none : i + m - 14 ≡ 0 = omega arith in
-          let next : 0 ≡ i + suc m - 14 = omega arith in
-          last-next i m
-          ∙ ap₂ _∷_ (zero-at (i + m) near) (before ∙ ap (λ (n : ℕ). lately full l m (newestFirst values n)) none)
-          ∙ sym (lately-none m)
-          ∙ ap (λ (n : ℕ). lately full l (suc m) (newestFirst values n)) next
+      either : (hasBit 455 (bitOf t) || hasBit 56 (bitOf t)) ≡ true
+      either = unfold tests bitOf hasBit in agree (λ (u : Test). hasBit 455 (bitOf u) || hasBit 56 (bitOf u)) (λ (u : Test). true) true refl t
 
-  -- ---- the codes as the code makes them: wide ones first, then narrowed behind the zeros
+  same-runs : (cs : List ℕ) (i : ℕ) → marksRead (bitAnd set 455) cs i ≡ marksRead set cs i
+  same-runs cs i =
+      let p : Test → Bool = λ t. judge (ruleOf t) (column (bitOf t) (lastOf cs i 15)) (column (downBit t) (lastOf cs i 15)) in
+      let read : (m : ℕ) → marksRead m cs i ≡ bitAnd m (setOf p) = λ m. unfold marksRead readCodes readOff setOf in refl in
+      read (bitAnd set 455)
+      ∙ and-setOf (bitAnd set 455) p
+      ∙ ap setOf (fun-ext (λ t. ap (λ (b : Bool). b && p t) (has-runs t)))
+      ∙ sym (and-setOf set p)
+      ∙ sym (read set)
 
-  module _ (wide narrow : List ℕ) (r : Room (length values) wide narrow) where
-    -- what is written into all of a room is all that it holds
-    whole : (room : List ℕ) → length room ≡ length values → atFront (codesOf full l values) room ≡ codesOf full l values
-    whole room e =
-        let none-left : length room ≤ length (codesOf full l values) = omega (arith, length-codes) in
-        ap (λ (rest : List ℕ). codesOf full l values ++ rest) (drop-of-length-le room none-left) ∙ append-nil (codesOf full l values)
+  pub runs-read : (cs old out : List ℕ) (m : ℕ) → out ≡ atFront (tabulate (marksRead (bitAnd set 455) cs) m) old → out ≡ atFront (tabulate (marksRead set cs) m) old
+  runs-read cs old out m e = e ∙ ap (λ (f : ℕ → ℕ). atFront (tabulate f m) old) (fun-ext (same-runs cs))
 
-    narrow-codes : tabulate (narrowed (codesOf full l values)) (length (codesOf full l values)) ≡ codesOf full l values
-    unfolding codesOf
-    narrow-codes =
-        ap (tabulate (narrowed (codesOf full l values))) length-codes
-        ∙ same-tabulate (narrowed (codesOf full l values)) (codeAt full l values) (length values)
-        (λ i h. ap (λ (c : ℕ). c % 65536) (getD-tabulate (codeAt full l values) (length values) i 0 h) ∙ mod-eq-of-lt (code-lt i))
+-- ---- the codes in their room
 
-    pub codes-behind : (w ys : List ℕ) → w ≡ atFront (codesOf full l values) wide
-        → ys ≡ atFront (tabulate (narrowed w) (length w)) (take (length narrow - 14) (drop 14 narrow))
-        → take 14 narrow ++ (ys ++ drop (length narrow - 14) (drop 14 narrow)) ≡ behindZeros
-    codes-behind w ys is put =
-        let w-is : w ≡ codesOf full l values = is ∙ whole wide (r .many) in
-        let room : length (take (length narrow - 14) (drop 14 narrow)) ≡ length values =
-        ap length (take-all (length narrow - 14) (drop 14 narrow) (le-of-eq (length-drop 14 narrow))) ∙ length-drop 14 narrow ∙ omega (arith, r .behind) in
-        let ys-is : ys ≡ codesOf full l values =
-        put ∙ ap (λ (x : List ℕ). atFront (tabulate (narrowed x) (length x)) (take (length narrow - 14) (drop 14 narrow))) w-is
-        ∙ ap (λ (x : List ℕ). atFront x (take (length narrow - 14) (drop 14 narrow))) narrow-codes
-        ∙ whole (take (length narrow - 14) (drop 14 narrow)) room in
-        ap₂ _++_ (r .zeros)
-        (ap₂ _++_ ys-is (drop-of-length-le (drop 14 narrow) (le-of-eq (length-drop 14 narrow))) ∙ append-nil (codesOf full l values))
+-- the part of c from i on was lent, and the codes of a series put at its front
+pub codes-there : (set : ℕ) (l : Lines) (values : List Float) (c part : List ℕ) (i : ℕ) → i ≤ length c → part ≡ atFront (codesOf set l values) (lent c i)
+    → (j : ℕ) → j < length values → getD (regained c i part) (i + j) 0 ≡ codeAt set l (getD values 0 nan) values j
+unfolding codesOf
+codes-there set l values c part i h e j q =
+    let made = tabulate (codeAt set l (getD values 0 nan) values) (length values) in
+    let back = drop (length c - i) (drop i c) in
+    let left = drop (length made) (lent c i) in
+    let many : j < length made = omega (arith, length-tabulate (codeAt set l (getD values 0 nan) values) (length values)) in
+    ap (λ (k : ℕ). getD (take i c ++ (part ++ back)) (k + j) 0) (sym (length-take-le i c h))
+    ∙ getD-append-add (take i c) (part ++ back) j 0
+    ∙ ap (λ (xs : List ℕ). getD (xs ++ back) j 0) e
+    ∙ ap (λ (xs : List ℕ). getD xs j 0) (append-assoc made left back)
+    ∙ List·getD-append made (left ++ back) 0 j many
+    ∙ getD-tabulate (codeAt set l (getD values 0 nan) values) (length values) j 0 q
 
--- ---- the marks
+-- ---- the marks of a block, before which the first p of the values come
 
-module _ (l : Lines) (values : List Float) (set : ℕ) where
-  abbrev codes : List ℕ
-  codes = behindZeros (needsFull set) l values
+module _ (set : ℕ) (l : Lines) (values : List Float) (p : ℕ) (cs : List ℕ) (near : p ≤ 14)
+    (there : (j : ℕ) → j < length values → getD cs (14 - p + j) 0 ≡ codeAt set l (getD values 0 nan) values j) where
+  -- the fifteen codes from i on end at position p + i
+  module _ (i : ℕ) (inside : p + i < length values) where
+    abbrev ws : List ℕ
+    ws = lastOf cs i 15
 
-  marks-read : (i : ℕ) → i < length values → marksRead set codes i ≡ marksAt l set values i
-  unfolding marksRead marksAt
-  marks-read i h =
-      let at : i + 15 - 14 ≡ suc i = omega arith in
-      ap (λ (cs : List ℕ). bitAnd set (fromBits (readOff cs)))
-      (ending (needsFull set) l values i 15 (omega arith) ∙ ap (λ (n : ℕ). lately (needsFull set) l 15 (newestFirst values n)) at)
-      ∙ reads-marks set l (newestFirst values (suc i))
+    are : (k : ℕ) → k < 15 → k ≤ p + i → getD ws k 0 ≡ codeAt set l (getD values 0 nan) values (p + i - k)
+    are k h q =
+        let e : i + (15 - 1 - k) ≡ 14 - p + (p + i - k) = omega arith in
+        last-at cs i 15 k h ∙ ap (λ (j : ℕ). getD cs j 0) e ∙ there (p + i - k) (omega arith)
 
-  pub all-marks : (cs : List ℕ) → cs ≡ codes → tabulate (marksRead set cs) (length cs - 14) ≡ tabulate (marksAt l set values) (length values)
-  all-marks cs e =
-      let many : length codes - 14 ≡ length values =
-      omega (arith, length-append (replicate 14 0) (codesOf (needsFull set) l values), length-codes (needsFull set) l values) in
-      ap (λ (x : List ℕ). tabulate (marksRead set x) (length x - 14)) e
-      ∙ ap (tabulate (marksRead set codes)) many
-      ∙ same-tabulate (marksRead set codes) (marksAt l set values) (length values) marks-read
+    read-far : 14 ≤ p + i → marksRead set cs i ≡ marksAt l set values (p + i)
+    unfolding marksRead marksAt readCodes
+    read-far far =
+        reads-far l (newestFirst values (suc (p + i))) (λ t. column (bitOf t) ws) (λ t. column (downBit t) ws) set
+        (codes-show set l values (p + i) ws (length-last cs i 15) are) (omega (arith, length-newest values (suc (p + i))))
 
--- the front of arrays of zeros is room for the codes
-pub room-for : (n j k : ℕ) → j ≡ n → k ≡ n + 14 → n ≤ 4096 → Room n (take j (replicate 4096 0)) (take k (replicate 4110 0))
-room-for n j k e f h = record {
-  many = ap (λ (m : ℕ). length {A = ℕ} (take m (replicate 4096 0))) e ∙ length-take-le n (replicate 4096 0) (rw (length-replicate {A = ℕ} 4096 0) h);
-  behind =
-      ap (λ (m : ℕ). length {A = ℕ} (take m (replicate 4110 0))) f
-      ∙ length-take-le (n + 14) (replicate 4110 0) (rw (length-replicate {A = ℕ} 4110 0) (omega arith));
-  zeros = take-take 14 k (replicate 4110 0) (omega arith);
-}
+    read-near : bitAnd (marksRead set cs i) (fitting (suc (p + i))) ≡ marksAt l set values (p + i)
+    unfolding marksRead marksAt readCodes
+    read-near =
+        reads-marks l (newestFirst values (suc (p + i))) (λ t. column (bitOf t) ws) (λ t. column (downBit t) ws) set
+        (codes-show set l values (p + i) ws (length-last cs i 15) are) (suc (p + i)) (sym (length-newest values (suc (p + i))))
+
+  -- what was read, less what does not fit among the first k
+  pub block-marks : (k n : ℕ) (old read fitted : List ℕ) → n ≡ length values - p → k ≤ n → p + k ≤ 14
+      → ((i : ℕ) → i < 14 - p → i < n → i < k)
+      → read ≡ atFront (tabulate (marksRead set cs) n) old
+      → fitted ≡ atFront (tabulate (λ i. bitAnd (getD read i 0) (fitsAt (p + i))) k) read
+      → fitted ≡ atFront (tabulate (λ i. marksAt l set values (p + i)) n) old
+  block-marks k n old read fitted many few small all was is =
+      is
+      ∙ ap (atFront (tabulate (λ i. bitAnd (getD read i 0) (fitsAt (p + i))) k)) was
+      ∙ patched (λ i. bitAnd (getD read i 0) (fitsAt (p + i))) (marksRead set cs) (λ i. marksAt l set values (p + i)) k n old few
+      (λ i h. ap₂ bitAnd (here i h) (fits-are (p + i) (omega arith)) ∙ read-near i (omega arith))
+      (λ i h q. read-far i (omega arith) (late i h q))
+    where
+      here : (i : ℕ) → i < k → getD read i 0 ≡ marksRead set cs i
+      here i h =
+          let R = tabulate (marksRead set cs) n in
+          ap (λ (r : List ℕ). getD r i 0) was
+          ∙ List·getD-append R (drop (length R) old) 0 i (omega (arith, length-tabulate (marksRead set cs) n))
+          ∙ getD-tabulate (marksRead set cs) n i 0 (omega arith)
+
+      late : (i : ℕ) → k ≤ i → i < n → 14 ≤ p + i
+      late i h q = by (ltb i (14 - p)) refl
+        where
+          by : (b : Bool) → ltb i (14 - p) ≡ b → 14 ≤ p + i
+          by true e = absurd (omega (arith, all i (ltb-true i (14 - p) e) q))
+          by false e = omega (arith, ltb-false i (14 - p) e)

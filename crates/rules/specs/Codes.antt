@@ -1,58 +1,77 @@
--- The engine of marking, on numbers: the code of a value says how it lies to the lines and to the value before it, one bit for each
--- comparison; the tests of a position are read off the fifteen codes that end there. Nothing here has to be believed: the proofs tie
--- it to Marking.antt. Definitions only.
-use mathlib.Core.Bool.{Bool, true, false, not, _&&_, _||_}
-use mathlib.Core.Path.{_≡_}
+-- The engine of marking, on numbers: the code of a value has, for each test, a bit for each of its two signals; the columns of a position
+-- are the bits of the fifteen codes that end there. Nothing here has to be believed: the proofs tie it to Marking.antt. Definitions only.
+use mathlib.Core.Bool.{Bool, not, _&&_, _||_, cond}
 use mathlib.Core.List.{List, [], _∷_, map}
-use Prim.Native.Nat.{ℕ, zero, suc, _+_, _-_, _%_}
-use lib.Dec.{leb, eqb}
-use lib.Bits.{bitAnd}
+use Prim.Native.Nat.{ℕ, zero, suc, _+_}
+use lib.Dec.{eqb}
+use lib.Bits.{bitAnd, bitOr}
 use lib.Ieee.{Float, nan, le}
-use lib.ListN.{length, take, getD, replicate}
-use Rattle.laws.specs.Bools.{every, count}
+use lib.ListN.{length, getD}
 use Rattle.laws.specs.Bits.{hasBit, fromBits}
 use Rattle.laws.specs.Lists.{tabulate}
+use Rattle.sets.specs.declared.Test.{Test}
+use Rattle.sets.specs.declared.Test.the-variants.{BeyondLimits, NineOneSide, SixTrend, FourteenAlternating, TwoOfThreeBeyond2Sigma, FourOfFiveBeyond1Sigma, FifteenWithin1Sigma, EightBeyond1Sigma, EightOneSide}
+use Rattle.sets.specs.Sets.{bitOf}
 use Rattle.rules.specs.declared.Lines.{Lines}
 use Rattle.rules.specs.Tests.{over, under, rise, fall}
+use Rattle.rules.specs.Columns.{readOff}
 
 -- ---- the code of a value
 
--- Bits 0 to 11 for the value v, which comes after u: there is a value; it is beyond the limits; over, under the centre line; it rises,
--- falls; it is over, under one sigma; over, under two sigma; within one sigma; beyond one sigma. Rising, falling, within and beyond one
--- sigma are left out of a code that is not full.
-unfoldable pub bitsOf : Bool → Lines → Float → Float → List Bool
-bitsOf full l u v =
-    true
-    ∷ (over (l .ucl) v || under (l .lcl) v)
-    ∷ over (l .cl) v
-    ∷ under (l .cl) v
-    ∷ (full && rise u v)
-    ∷ (full && fall u v)
-    ∷ over (l .above1) v
-    ∷ under (l .below1) v
-    ∷ over (l .above2) v
-    ∷ under (l .below2) v
-    ∷ (full && (le (l .below1) v && le v (l .above1)))
-    ∷ (full && (over (l .above1) v || under (l .below1) v))
-    ∷ []
+-- k where b says so, else nothing
+abbrev pub picked : Bool → ℕ → ℕ
+picked b k = cond b k 0
 
-unfoldable pub codeOf : Bool → Lines → Float → Float → ℕ
-codeOf full l u v = fromBits (bitsOf full l u v)
+-- `up` for a value over the line `high`, `down` for one under the line `low`
+unfoldable pub zoneCode : Float → Float → ℕ → ℕ → Float → ℕ
+zoneCode high low up down v = bitOr (picked (over high v) up) (picked (under low v) down)
 
--- the code at position i of a series; the first value comes after itself, so that it neither rises nor falls
-unfoldable pub codeAt : Bool → Lines → List Float → ℕ → ℕ
-codeAt full l values i = codeOf full l (getD values (i - 1) nan) (getD values i nan)
+-- for a value that is neither
+unfoldable pub insideCode : Float → Float → Float → ℕ
+insideCode high low v = picked (le low v && le v high) 64
 
-unfoldable pub codesOf : Bool → Lines → List Float → List ℕ
-codesOf full l values = tabulate (codeAt full l values) (length values)
+-- for a step up, for a step down
+unfoldable pub stepCode : Float → Float → ℕ
+stepCode u v = bitOr (picked (rise u v) 12) (picked (fall u v) 3072)
 
--- a set needs full codes unless it has none but the tests 0, 1, 4, 5 and 8
-abbrev pub needsFull : ℕ → Bool
-needsFull set = not (eqb (bitAnd set 307) set)
+-- The same at entry i of some values, where it is needed. Before them comes u: what comes before entry i is entry i of the longer list.
+abbrev pub zoneAt : Bool → Float → Float → ℕ → ℕ → List Float → ℕ → ℕ
+zoneAt need high low up down vs i = picked need (zoneCode high low up down (getD vs i nan))
 
--- a code in sixteen bits
-abbrev pub narrowed : List ℕ → ℕ → ℕ
-narrowed wide i = getD wide i 0 % 65536
+abbrev pub insideAt : Bool → Float → Float → List Float → ℕ → ℕ
+insideAt need high low vs i = picked need (insideCode high low (getD vs i nan))
+
+abbrev pub stepAt : Bool → Float → List Float → ℕ → ℕ
+stepAt need u vs i = picked need (stepCode (getD (u ∷ vs) i nan) (getD vs i nan))
+
+-- the set has a test of those of the number `family`
+abbrev pub asks : ℕ → ℕ → Bool
+asks set family = not (eqb (bitAnd set family) 0)
+
+-- sixteen codes with f of its place put into each
+unfoldable pub added : (ℕ → ℕ) → List ℕ → List ℕ
+added f k = tabulate (λ i. bitOr (getD k i 0) (f i)) 16
+
+-- The code of the value v after u, of the families that are asked for: the limits, the centre line, two sigma, one sigma, within one sigma,
+-- the steps. The signal of one way has the bit of its test, that of the other way the bit eight places above; eight on one side have bits
+-- 8 and 14.
+unfoldable pub codeOf : (ℕ → Bool) → Lines → Float → Float → ℕ
+codeOf asked l u v =
+    bitOr (bitOr (bitOr (bitOr (bitOr (bitOr 0
+    (picked (asked 1) (zoneCode (l .ucl) (l .lcl) 1 1 v)))
+    (picked (asked 258) (zoneCode (l .cl) (l .cl) 258 16896 v)))
+    (picked (asked 16) (zoneCode (l .above2) (l .below2) 16 4096 v)))
+    (picked (asked 160) (zoneCode (l .above1) (l .below1) 160 8320 v)))
+    (picked (asked 64) (insideCode (l .above1) (l .below1) v)))
+    (picked (asked 12) (stepCode u v))
+
+-- that of entry i
+abbrev pub codeAt : ℕ → Lines → Float → List Float → ℕ → ℕ
+codeAt set l u vs i = codeOf (asks set) l (getD (u ∷ vs) i nan) (getD vs i nan)
+
+-- the codes of a series; its first value comes after itself, so that it neither rises nor falls
+unfoldable pub codesOf : ℕ → Lines → List Float → List ℕ
+codesOf set l values = tabulate (codeAt set l (getD values 0 nan) values) (length values)
 
 -- ---- the tests of a position
 
@@ -66,42 +85,40 @@ lastOf cs i (suc (suc n)) = getD cs (i + suc n) 0 ∷ lastOf cs i (suc n)
 abbrev pub column : ℕ → List ℕ → List Bool
 column s cs = map (λ c. hasBit c s) cs
 
--- all of the first n
-abbrev pub first : ℕ → List Bool → Bool
-first n bs = every (take n bs)
+-- the bit of a test's second signal; its first has the bit of the test
+unfoldable pub downBit : Test → ℕ
+downBit BeyondLimits = 0
+downBit NineOneSide = 9
+downBit SixTrend = 10
+downBit FourteenAlternating = 11
+downBit TwoOfThreeBeyond2Sigma = 12
+downBit FourOfFiveBeyond1Sigma = 13
+downBit FifteenWithin1Sigma = 6
+downBit EightBeyond1Sigma = 7
+downBit EightOneSide = 14
 
--- the first n by turns, the first of xs, the second of ys, and so on
-unfoldable pub byTurns : ℕ → List Bool → List Bool → Bool
-byTurns zero xs ys = true
-byTurns (suc n) [] ys = false
-byTurns (suc n) (x ∷ xs) [] = false
-byTurns (suc n) (x ∷ xs) (y ∷ ys) = x && byTurns n ys xs
-
--- at least k of the first n
-abbrev pub some : ℕ → ℕ → List Bool → Bool
-some k n bs = leb k (count (take n bs))
-
--- the nine tests, in the order of their bits, read off the codes that end at a position, newest first
-unfoldable pub readOff : List ℕ → List Bool
-unfolding byTurns
-readOff cs =
-    first 1 (column 1 cs)
-    ∷ (first 9 (column 2 cs) || first 9 (column 3 cs))
-    ∷ (first 5 (column 4 cs) || first 5 (column 5 cs))
-    ∷ (byTurns 13 (column 4 cs) (column 5 cs) || byTurns 13 (column 5 cs) (column 4 cs))
-    ∷ (first 3 (column 0 cs) && (some 2 3 (column 8 cs) || some 2 3 (column 9 cs)))
-    ∷ (first 5 (column 0 cs) && (some 4 5 (column 6 cs) || some 4 5 (column 7 cs)))
-    ∷ first 15 (column 10 cs)
-    ∷ first 8 (column 11 cs)
-    ∷ (first 8 (column 2 cs) || first 8 (column 3 cs))
+-- the nine tests by the bits of what all, some and every other of the codes have in common
+abbrev pub packedBits : ℕ → ℕ → ℕ → ℕ → ℕ → ℕ → ℕ → ℕ → List Bool
+packedBits c0 all5 all8 all9 all15 turns two four =
+    hasBit c0 0
+    ∷ (hasBit all9 1 || hasBit all9 9)
+    ∷ (hasBit all5 2 || hasBit all5 10)
+    ∷ hasBit turns 3
+    ∷ (hasBit two 4 || hasBit two 12)
+    ∷ (hasBit four 5 || hasBit four 13)
+    ∷ hasBit all15 6
+    ∷ hasBit all8 7
+    ∷ (hasBit all8 8 || hasBit all8 14)
     ∷ []
+
+-- the nine tests, read off the codes that end at a position, newest first
+unfoldable pub readCodes : List ℕ → List Bool
+readCodes cs = readOff (λ t. column (bitOf t) cs) (λ t. column (downBit t) cs)
 
 -- the marks of the set that are read off the fifteen codes from i on
 unfoldable pub marksRead : ℕ → List ℕ → ℕ → ℕ
-marksRead set cs i = bitAnd set (fromBits (readOff (lastOf cs i 15)))
+marksRead set cs i = bitAnd set (fromBits (readCodes (lastOf cs i 15)))
 
--- room for the codes of n values: as many wide numbers, and as many narrow ones behind fourteen zeros
-pub record Room (n : ℕ) (wide narrow : List ℕ) : Type 0 where
-  pub many : length wide ≡ n
-  pub behind : length narrow ≡ n + 14
-  pub zeros : take 14 narrow ≡ replicate 14 0
+-- the tests whose window is within i + 1, for the first fourteen positions
+unfoldable pub fitsAt : ℕ → ℕ
+fitsAt i = getD (1 ∷ 1 ∷ 17 ∷ 17 ∷ 49 ∷ 53 ∷ 53 ∷ 437 ∷ 439 ∷ 439 ∷ 439 ∷ 439 ∷ 439 ∷ 447 ∷ []) i 0

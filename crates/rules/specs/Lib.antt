@@ -3,4 +3,5 @@ pub mod Lines
 pub mod Tests
 pub mod Finite
 pub mod Marking
+pub mod Columns
 pub mod Codes

@@ -1,109 +1,264 @@
-// The engine of marking: each value gets a code, one bit for each comparison, and the tests of a position are read off
-// the fifteen codes that end there: one loop makes the codes, one narrows them, one reads the marks off. None branches, so
-// that each runs over several values at a time.
+// The engine of marking. Every value gets a code: two bits for each test, one for each way in which the value can count towards
+// it. The marks of a position are ands and ors of the fifteen codes that end there, so all tests are read off at once, and
+// neither making nor reading codes branches on a value: several values go through each instruction.
+//
+// - `group` makes the codes of sixteen values, family by family (a family is a pair of lines, or the steps), and skips the
+//   families that the set has no test of; `codes` does so for any number of values, the last of them padded.
+// - `standing` reads the tests off fifteen codes. What stands before the first value is free: `fit` takes from the first
+//   fourteen marks the tests whose window does not fit there.
+// - `blocks` marks some 500 positions at a time, in one room of codes, by their values and the fourteen before them; `fill`
+//   gives short series a small room, and a set of the first test alone a loop without codes.
 use super::Lines;
 ghost use mathlib.Core.Path.{_≡_};
-ghost use mathlib.Core.List.{List, [], _∷_, _++_, map};
-ghost use Prim.Native.Nat.{ℕ, _+_, _-_, _%_, _≤_, _<_};
-ghost use lib.ListN.{length, replicate};
-ghost use Rattle.laws.specs.Bits.{hasBit, fromBits};
+ghost use mathlib.Core.List.{[], _∷_};
+ghost use Prim.Native.Nat.{ℕ, _+_, _-_, _≤_, _<_};
+ghost use lib.Bits.{bitAnd};
+ghost use lib.Ieee.{nan};
+ghost use lib.ListN.{length, getD};
+ghost use Rattle.laws.specs.Bits.{fromBits};
 ghost use Rattle.laws.specs.Lists.{tabulate};
 ghost use Rattle.laws.specs.Front.{atFront};
-ghost use Rattle.rules.specs.Marking.{marksBy};
-ghost use Rattle.rules.specs.Codes.{needsFull, codeOf, codesOf, narrowed, readOff, lastOf, marksRead, Room};
+ghost use Rattle.rules.specs.Marking.{marksAt, marksBy};
+ghost use Rattle.rules.specs.Codes.{picked, zoneCode, insideCode, stepCode, zoneAt, insideAt, stepAt, added, codeAt, codesOf, packedBits, readCodes, lastOf, marksRead, fitsAt};
 
-// Tests 0, 1, 4, 5 and 8: all that ask neither for a step to the value before nor for within or beyond one sigma.
-const LEVELS: u16 = 0b1_0011_0011;
+// The tests of each family.
+const LIMITS: u16 = 0b0_0000_0001;
 
-// Whether a set has another test than these. If not, its codes need fewer bits and are made in less time.
-fn needs_full(set: u16) -> bool
-    ensures { λ r. ⌜ r ≡ needsFull set ⌝ }
+const CENTRE: u16 = 0b1_0000_0010;
+
+const STEPS: u16 = 0b0_0000_1100;
+
+const TWO_SIGMA: u16 = 0b0_0001_0000;
+
+const ONE_SIGMA: u16 = 0b0_1010_0000;
+
+const INSIDE: u16 = 0b0_0100_0000;
+
+// The tests that a run of one signal shows, and those that want every other code, or most of some.
+const RUNS: u16 = 0b1_1100_0111;
+
+const MIXED: u16 = 0b0_0011_1000;
+
+fn pick(b: bool, k: u16) -> u16
+    ensures { λ r. ⌜ r ≡ picked b k ⌝ }
 {
-    set & LEVELS != set
+    if b {
+        return k;
+    }
+    0
 }
 
-// How the value v, which comes after u, lies to the lines and to u.
-fn code_of(full: bool, l: Lines, u: f64, v: f64) -> u64
-    ensures { λ r. ⌜ r ≡ codeOf full l u v ⌝ }
+// How the value v lies outside two lines.
+fn zone_code(high: f64, low: f64, up: u16, down: u16, v: f64) -> u16
+    ensures { λ r. ⌜ r ≡ zoneCode high low up down v ⌝ }
 {
-    let beyond = ((l.ucl < v) | (v < l.lcl)) as u64;
-    let over = (l.cl < v) as u64;
-    let under = (v < l.cl) as u64;
-    let rise = (full & (u < v)) as u64;
-    let fall = (full & (v < u)) as u64;
-    let over1 = (l.above1 < v) as u64;
-    let under1 = (v < l.below1) as u64;
-    let over2 = (l.above2 < v) as u64;
-    let under2 = (v < l.below2) as u64;
-    let within1 = (full & ((l.below1 <= v) & (v <= l.above1))) as u64;
-    let beyond1 = (full & ((l.above1 < v) | (v < l.below1))) as u64;
-    1
-        | (beyond << 1)
-        | (over << 2)
-        | (under << 3)
-        | (rise << 4)
-        | (fall << 5)
-        | (over1 << 6)
-        | (under1 << 7)
-        | (over2 << 8)
-        | (under2 << 9)
-        | (within1 << 10)
-        | (beyond1 << 11)
+    pick(high < v, up) | pick(v < low, down)
 }
 
-// The codes of every value. Numbers of 64 bits, as wide as the values, keep the loop to one comparison an instruction.
-fn codes(full: bool, l: Lines, values: &[f64], out: &mut [u64])
-    requires { ⌜ length (now values) ≤ length (now out) ⌝ }
-    ensures { λ _. ⌜ now (out .exit) ≡ atFront (codesOf full l (now (values .entry))) (now (out .entry)) ⌝ }
+// Whether the value v lies outside neither.
+fn inside_code(high: f64, low: f64, v: f64) -> u16
+    ensures { λ r. ⌜ r ≡ insideCode high low v ⌝ }
 {
-    if values.len() == 0 {
+    pick((low <= v) & (v <= high), 0x0040)
+}
+
+// How the value v lies to u, which comes before it.
+fn step_code(u: f64, v: f64) -> u16
+    ensures { λ r. ⌜ r ≡ stepCode u v ⌝ }
+{
+    pick(u < v, 0x000c) | pick(v < u, 0x0c00)
+}
+
+// How sixteen values lie outside two lines, put into their codes where a test asks for it. The codes go by value, and not behind
+// a reference: then nothing that is written can be one of the values, and LLVM compares and packs eight of them at a time.
+fn zones(
+    need: bool,
+    high: f64,
+    low: f64,
+    up: u16,
+    down: u16,
+    v: &[f64],
+    mut k: [u16; 16],
+) -> [u16; 16]
+    requires { ⌜ (length (now v) ≡ 16) × (length k ≡ 16) ⌝ }
+    ensures codes { λ r. ⌜ r ≡ added (zoneAt need high low up down (now (v .entry))) k ⌝ }
+    ensures sixteen { λ r. ⌜ length r ≡ 16 ⌝ }
+{
+    if !need {
+        return k;
+    }
+    let mut j = 0;
+    while j < 16 {
+        let x = v[j];
+        k[j] = k[j] | zone_code(high, low, up, down, x);
+        j += 1;
+    }
+    k
+}
+
+// Whether they lie outside neither.
+fn insides(need: bool, high: f64, low: f64, v: &[f64], mut k: [u16; 16]) -> [u16; 16]
+    requires { ⌜ (length (now v) ≡ 16) × (length k ≡ 16) ⌝ }
+    ensures codes { λ r. ⌜ r ≡ added (insideAt need high low (now (v .entry))) k ⌝ }
+    ensures sixteen { λ r. ⌜ length r ≡ 16 ⌝ }
+{
+    if !need {
+        return k;
+    }
+    let mut j = 0;
+    while j < 16 {
+        let x = v[j];
+        k[j] = k[j] | inside_code(high, low, x);
+        j += 1;
+    }
+    k
+}
+
+// How each lies to the one before it; `first` comes before the first.
+fn steps(need: bool, first: f64, v: &[f64], mut k: [u16; 16]) -> [u16; 16]
+    requires { ⌜ (length (now v) ≡ 16) × (length k ≡ 16) ⌝ }
+    ensures codes { λ r. ⌜ r ≡ added (stepAt need first (now (v .entry))) k ⌝ }
+    ensures sixteen { λ r. ⌜ length r ≡ 16 ⌝ }
+{
+    if !need {
+        return k;
+    }
+    let mut u = first;
+    let mut j = 0;
+    while j < 16 {
+        let x = v[j];
+        k[j] = k[j] | step_code(u, x);
+        u = x;
+        j += 1;
+    }
+    k
+}
+
+// The codes of sixteen values, before the first of which u comes.
+fn group(set: u16, l: Lines, u: f64, v: &[f64]) -> [u16; 16]
+    requires { ⌜ length (now v) ≡ 16 ⌝ }
+    ensures { λ r. ⌜ r ≡ tabulate (codeAt set l u (now (v .entry))) 16 ⌝ }
+{
+    let none = [0u16; 16];
+    let limits = zones(set & LIMITS != 0, l.ucl, l.lcl, 0x0001, 0x0001, v, none);
+    let centre = zones(set & CENTRE != 0, l.cl, l.cl, 0x0102, 0x4200, v, limits);
+    let two = zones(
+        set & TWO_SIGMA != 0,
+        l.above2,
+        l.below2,
+        0x0010,
+        0x1000,
+        v,
+        centre,
+    );
+    let one = zones(
+        set & ONE_SIGMA != 0,
+        l.above1,
+        l.below1,
+        0x00a0,
+        0x2080,
+        v,
+        two,
+    );
+    let inside = insides(set & INSIDE != 0, l.above1, l.below1, v, one);
+    steps(set & STEPS != 0, u, v, inside)
+}
+
+// Up to sixteen values at the front of sixteen.
+fn pad(values: &[f64], v: &mut [f64; 16])
+    requires { ⌜ (length (now values) ≤ 16) × (length (now v) ≡ 16) ⌝ }
+    ensures values { λ _. ⌜ now (v .exit) ≡ atFront (now (values .entry)) (now (v .entry)) ⌝ }
+    ensures sixteen { λ _. ⌜ length (now (v .exit)) ≡ 16 ⌝ }
+{
+    let mut j = 0;
+    while j < values.len() {
+        v[j] = values[j];
+        j += 1;
+    }
+}
+
+// The first m of sixteen codes at the front of `c`.
+fn put(k: &[u16; 16], m: usize, c: &mut [u16])
+    requires { ⌜ (m ≤ 16) × (m ≤ length (now c)) ⌝ }
+    ensures { λ _. ⌜ now (c .exit) ≡ atFront (tabulate (λ j. getD (now (k .entry)) j 0) m) (now (c .entry)) ⌝ }
+{
+    let mut j = 0;
+    while j < m {
+        c[j] = k[j];
+        j += 1;
+    }
+}
+
+// The codes of up to sixteen values, before the first of which u comes, at the front of `c`. Sixteen go the short way.
+fn next_codes(set: u16, l: Lines, u: f64, values: &[f64], c: &mut [u16])
+    requires { ⌜ (length (now values) ≤ 16) × (length (now values) ≤ length (now c)) ⌝ }
+    ensures { λ _. ⌜ now (c .exit) ≡ atFront (tabulate (codeAt set l u (now (values .entry))) (length (now (values .entry)))) (now (c .entry)) ⌝ }
+{
+    if values.len() == 16 {
+        put(&group(set, l, u, values), values.len(), c);
         return;
     }
-    let mut before = values[0];
+    let mut v = [0.0f64; 16];
+    pad(values, &mut v);
+    put(&group(set, l, u, &v[0..16]), values.len(), c);
+}
+
+// The value before that at i; the first value comes after itself, so that it neither rises nor falls.
+fn before(values: &[f64], i: usize) -> f64
+    requires { ⌜ i < length (now values) ⌝ }
+    ensures { λ r. ⌜ r ≡ getD (getD (now (values .entry)) 0 nan ∷ now (values .entry)) i nan ⌝ }
+{
+    if i == 0 {
+        return values[0];
+    }
+    values[i - 1]
+}
+
+// The smaller of two.
+fn least(a: usize, b: usize) -> usize
+    ensures { λ r. ⌜ (r ≤ a) × (r ≤ b) × ((i : ℕ) → i < a → i < b → i < r) ⌝ }
+{
+    if a < b {
+        return a;
+    }
+    b
+}
+
+// The codes of every value at the front of `c`.
+fn codes(set: u16, l: Lines, values: &[f64], c: &mut [u16])
+    requires { ⌜ length (now values) ≤ length (now c) ⌝ }
+    ensures { λ _. ⌜ now (c .exit) ≡ atFront (codesOf set l (now (values .entry))) (now (c .entry)) ⌝ }
+{
+    let n = values.len();
     let mut i = 0;
-    while i < values.len() {
-        let v = values[i];
-        out[i] = code_of(full, l, before, v);
-        before = v;
-        i += 1;
+    while i < n {
+        let e = i + least(n - i, 16);
+        next_codes(set, l, before(values, i), &values[i..e], &mut c[i..]);
+        i = e;
     }
 }
 
-fn low16(x: u64) -> u16
-    ensures { λ r. ⌜ r ≡ x % 65536 ⌝ }
+// The tests by their bits: of two signals, one and the one eight places above.
+fn pack(
+    c0: u16,
+    all5: u16,
+    all8: u16,
+    all9: u16,
+    all15: u16,
+    turns: u16,
+    two: u16,
+    four: u16,
+) -> u16
+    ensures { λ r. ⌜ r ≡ fromBits (packedBits c0 all5 all8 all9 all15 turns two four) ⌝ }
 {
-    (x % 65536) as u16
-}
-
-// The same numbers in sixteen bits.
-fn narrow(wide: &[u64], out: &mut [u16])
-    requires { ⌜ length (now wide) ≤ length (now out) ⌝ }
-    ensures { λ _. ⌜ now (out .exit) ≡ atFront (tabulate (narrowed (now (wide .entry))) (length (now (wide .entry)))) (now (out .entry)) ⌝ }
-{
-    let mut i = 0;
-    while i < wide.len() {
-        out[i] = low16(wide[i]);
-        i += 1;
-    }
-}
-
-// The lowest bits of nine numbers as one number.
-fn pack(t0: u16, t1: u16, t2: u16, t3: u16, t4: u16, t5: u16, t6: u16, t7: u16, t8: u16) -> u16
-    ensures { λ r. ⌜ r ≡ fromBits (hasBit t0 0 ∷ hasBit t1 0 ∷ hasBit t2 0 ∷ hasBit t3 0 ∷ hasBit t4 0 ∷ hasBit t5 0 ∷ hasBit t6 0 ∷ hasBit t7 0 ∷ hasBit t8 0 ∷ []) ⌝ }
-{
-    (t0 & 1)
-        | ((t1 & 1) << 1)
-        | ((t2 & 1) << 2)
-        | ((t3 & 1) << 3)
-        | ((t4 & 1) << 4)
-        | ((t5 & 1) << 5)
-        | ((t6 & 1) << 6)
-        | ((t7 & 1) << 7)
-        | ((t8 & 1) << 8)
+    let pairs = (((all9 & 0x0202) | (all5 & 0x0404)) | (two & 0x1010)) | (four & 0x2020);
+    let folded = (pairs | (pairs >> 8)) & 0x0036;
+    let sides = (all8 | (all8 >> 6)) & 0x0100;
+    (((((c0 & 0x0001) | folded) | (turns & 0x0008)) | (all15 & 0x0040)) | (all8 & 0x0080)) | sides
 }
 
 // The tests that stand at a position, by the codes that end there: c0 is that of the position, c1 that of the one
-// before it, and so on. The bits of a code are those of `code_of`.
+// before it, and so on.
 fn standing(
     c0: u16,
     c1: u16,
@@ -121,34 +276,24 @@ fn standing(
     c13: u16,
     c14: u16,
 ) -> u16
-    ensures { λ r. ⌜ r ≡ fromBits (readOff (c0 ∷ c1 ∷ c2 ∷ c3 ∷ c4 ∷ c5 ∷ c6 ∷ c7 ∷ c8 ∷ c9 ∷ c10 ∷ c11 ∷ c12 ∷ c13 ∷ c14 ∷ [])) ⌝ }
+    ensures { λ r. ⌜ r ≡ fromBits (readCodes (c0 ∷ c1 ∷ c2 ∷ c3 ∷ c4 ∷ c5 ∷ c6 ∷ c7 ∷ c8 ∷ c9 ∷ c10 ∷ c11 ∷ c12 ∷ c13 ∷ c14 ∷ [])) ⌝ }
 {
-    let all3 = c0 & c1 & c2;
-    let all5 = all3 & c3 & c4;
+    let all5 = c0 & c1 & c2 & c3 & c4;
     let all8 = all5 & c5 & c6 & c7;
     let all9 = all8 & c8;
     let all15 = all9 & c9 & c10 & c11 & c12 & c13 & c14;
     let even = c0 & c2 & c4 & c6 & c8 & c10 & c12;
     let odd = c1 & c3 & c5 & c7 & c9 & c11;
+    let turns = (even & (odd >> 8)) | ((even >> 8) & odd);
     let two = (c0 & c1) | (c2 & (c0 | c1));
     let four = (c0 & c1 & c2 & c3) | (c4 & ((c0 & c1 & (c2 | c3)) | ((c0 | c1) & c2 & c3)));
-    pack(
-        c0 >> 1,
-        (all9 >> 2) | (all9 >> 3),
-        (all5 >> 4) | (all5 >> 5),
-        ((even >> 4) & (odd >> 5)) | ((even >> 5) & (odd >> 4)),
-        all3 & ((two >> 8) | (two >> 9)),
-        all5 & ((four >> 6) | (four >> 7)),
-        all15 >> 10,
-        all8 >> 11,
-        (all8 >> 2) | (all8 >> 3),
-    )
+    pack(c0, all5, all8, all9, all15, turns, two, four)
 }
 
 // The tests that stand at a position, by the fifteen codes from i on.
 fn standing_at(c: &[u16], i: usize) -> u16
     requires { ⌜ i + 14 < length (now c) ⌝ }
-    ensures { λ r. ⌜ r ≡ fromBits (readOff (lastOf (now (c .entry)) i 15)) ⌝ }
+    ensures { λ r. ⌜ r ≡ fromBits (readCodes (lastOf (now (c .entry)) i 15)) ⌝ }
 {
     standing(
         c[i + 14],
@@ -169,27 +314,116 @@ fn standing_at(c: &[u16], i: usize) -> u16
     )
 }
 
-// The marks of every position at the front of `out`, by the codes `c`; fourteen zeros stand in front of the first code.
-fn read_marks(set: u16, c: &[u16], out: &mut [u16])
-    requires { ⌜ length (now c) ≤ length (now out) + 14 ⌝ }
-    ensures { λ _. ⌜ now (out .exit) ≡ atFront (tabulate (marksRead set (now (c .entry))) (length (now (c .entry)) - 14)) (now (out .entry)) ⌝ }
+// The marks of m positions, read off the fifteen codes that end at each, wherever their windows reach.
+fn read_all(set: u16, c: &[u16], m: usize, out: &mut [u16])
+    requires { ⌜ (m + 14 ≤ length (now c)) × (m ≤ length (now out)) ⌝ }
+    ensures { λ _. ⌜ now (out .exit) ≡ atFront (tabulate (marksRead set (now (c .entry))) m) (now (out .entry)) ⌝ }
 {
     let mut i = 0;
-    while i + 14 < c.len() {
+    while i < m {
         out[i] = set & standing_at(c, i);
         i += 1;
     }
 }
 
-// The same from the values; `wide` and `c` are room for the codes.
-fn mark_in(l: Lines, set: u16, values: &[f64], wide: &mut [u64], c: &mut [u16], out: &mut [u16])
-    requires { ⌜ Room (length (now values)) (now wide) (now c) × (length (now values) ≤ length (now out)) ⌝ }
+// Those of runs alone: the mask is written here, so that LLVM leaves out what only the other tests are for.
+fn read_runs(set: u16, c: &[u16], m: usize, out: &mut [u16])
+    requires { ⌜ (m + 14 ≤ length (now c)) × (m ≤ length (now out)) ⌝ }
+    ensures { λ _. ⌜ now (out .exit) ≡ atFront (tabulate (marksRead (bitAnd set 455) (now (c .entry))) m) (now (out .entry)) ⌝ }
+{
+    let mut i = 0;
+    while i < m {
+        out[i] = (set & RUNS) & standing_at(c, i);
+        i += 1;
+    }
+}
+
+// The marks of m positions, with no more worked out than the set has need of.
+fn read_marks(set: u16, c: &[u16], m: usize, out: &mut [u16])
+    requires { ⌜ (m + 14 ≤ length (now c)) × (m ≤ length (now out)) ⌝ }
+    ensures { λ _. ⌜ now (out .exit) ≡ atFront (tabulate (marksRead set (now (c .entry))) m) (now (out .entry)) ⌝ }
+{
+    if set & MIXED != 0 {
+        read_all(set, c, m, out);
+        return;
+    }
+    read_runs(set, c, m, out);
+}
+
+// The tests whose window fits at each of the first fourteen positions.
+const FITS: [u16; 14] = [
+    0b0_0000_0001,
+    0b0_0000_0001,
+    0b0_0001_0001,
+    0b0_0001_0001,
+    0b0_0011_0001,
+    0b0_0011_0101,
+    0b0_0011_0101,
+    0b1_1011_0101,
+    0b1_1011_0111,
+    0b1_1011_0111,
+    0b1_1011_0111,
+    0b1_1011_0111,
+    0b1_1011_0111,
+    0b1_1011_1111,
+];
+
+// Takes from k marks, the first of which is at position `from`, the tests whose window does not fit.
+fn fit(from: usize, k: usize, out: &mut [u16])
+    requires { ⌜ (from + k ≤ 14) × (k ≤ length (now out)) ⌝ }
+    ensures { λ _. ⌜ now (out .exit) ≡ atFront (tabulate (λ i. bitAnd (getD (now (out .entry)) i 0) (fitsAt (from + i))) k) (now (out .entry)) ⌝ }
+{
+    let mut i = 0;
+    while i < k {
+        out[i] = out[i] & FITS[from + i];
+        i += 1;
+    }
+}
+
+// The marks of a block, before which come the first p of the values, at most fourteen; `c` is room for codes.
+fn block(l: Lines, set: u16, values: &[f64], p: usize, c: &mut [u16], out: &mut [u16])
+    requires { ⌜ (p ≤ 14) × (p ≤ length (now values)) × (length (now values) + 14 ≤ length (now c) + p) × (length (now values) ≤ length (now out) + p) ⌝ }
+    ensures { λ _. ⌜ now (out .exit) ≡ atFront (tabulate (λ i. marksAt l set (now (values .entry)) (p + i)) (length (now (values .entry)) - p)) (now (out .entry)) ⌝ }
+{
+    let free = 14 - p;
+    let m = values.len() - p;
+    codes(set, l, values, &mut c[free..]);
+    read_marks(set, c, m, out);
+    fit(p, least(free, m), out);
+}
+
+// The marks of every position, `most` at a time, at the front of `out`; `c` is room for codes.
+fn blocks(l: Lines, set: u16, values: &[f64], most: usize, c: &mut [u16], out: &mut [u16])
+    requires { ⌜ (0 < most) × (most + 14 ≤ length (now c)) × (length (now values) ≤ length (now out)) ⌝ }
     ensures { λ _. ⌜ now (out .exit) ≡ atFront (marksBy l set (now (values .entry))) (now (out .entry)) ⌝ }
 {
-    let full = needs_full(set);
-    codes(full, l, values, wide);
-    narrow(wide, &mut c[14..]);
-    read_marks(set, c, out);
+    let n = values.len();
+    let mut at = 0;
+    while at < n {
+        let p = least(at, 14);
+        let start = at - p;
+        let end = at + least(n - at, most);
+        block(l, set, &values[start..end], p, c, &mut out[at..]);
+        at = end;
+    }
+}
+
+// The same for few values, so that little room has to be cleared.
+fn mark_few(l: Lines, set: u16, values: &[f64], out: &mut [u16])
+    requires { ⌜ length (now values) ≤ length (now out) ⌝ }
+    ensures { λ _. ⌜ now (out .exit) ≡ atFront (marksBy l set (now (values .entry))) (now (out .entry)) ⌝ }
+{
+    let mut c = [0u16; 64];
+    blocks(l, set, values, 50, &mut c[0..64], out);
+}
+
+// The same for many: a block and its codes stay in the nearest cache.
+fn mark_many(l: Lines, set: u16, values: &[f64], out: &mut [u16])
+    requires { ⌜ length (now values) ≤ length (now out) ⌝ }
+    ensures { λ _. ⌜ now (out .exit) ≡ atFront (marksBy l set (now (values .entry))) (now (out .entry)) ⌝ }
+{
+    let mut c = [0u16; 512];
+    blocks(l, set, values, 498, &mut c[0..512], out);
 }
 
 // The same for a set that has no test but the first, whose windows are single values: no codes are needed.
@@ -207,16 +441,16 @@ fn mark_beyond(l: Lines, set: u16, values: &[f64], out: &mut [u16])
 
 // The marks of every position at the front of `out`.
 pub fn fill(l: Lines, set: u16, values: &[f64], out: &mut [u16])
-    requires { ⌜ (length (now values) ≤ 4096) × (length (now values) ≤ length (now out)) ⌝ }
+    requires { ⌜ length (now values) ≤ length (now out) ⌝ }
     ensures { λ _. ⌜ now (out .exit) ≡ atFront (marksBy l set (now (values .entry))) (now (out .entry)) ⌝ }
 {
     if set < 2 {
         mark_beyond(l, set, values, out);
         return;
     }
-    let n = values.len();
-    let m = n + 14;
-    let mut wide = [0u64; 4096];
-    let mut c = [0u16; 4110];
-    mark_in(l, set, values, &mut wide[0..n], &mut c[0..m], out);
+    if values.len() <= 50 {
+        mark_few(l, set, values, out);
+        return;
+    }
+    mark_many(l, set, values, out);
 }

@@ -18,17 +18,11 @@ returns-2 : tie.Need-returns-2
 unfolding answerOf firstOf
 returns-2 c = simp (le-ltb _ _ (c .before .before .if1 .left), lt-ltb _ _ (c .if2 .taken))
 
-finite-limits-requires : tie.Need-finite-limits-requires
-finite-limits-requires c κs = search needs
-
 returns-3 : tie.Need-returns-3
 unfolding answerOf firstOf
 returns-3 c =
     let limits : finiteLimits (c .before .before .before .before .before .before .args .limits) ≡ false = sym (c .before .finite-limits .ensures) ∙ not-true _ (c .if3 .taken) in
     simp (le-ltb _ _ (c .before .before .before .before .if1 .left), le-ltb _ _ (c .before .before .if2 .left), limits)
-
-all-finite-requires : tie.Need-all-finite-requires
-all-finite-requires c κs = search needs
 
 returns-4 : tie.Need-returns-4
 unfolding answerOf firstOf
@@ -57,9 +51,9 @@ answer-spec =
     (tie.spec
     returns
     returns-2
-    finite-limits-requires
+    (λ c κs. search needs)
     returns-3
-    all-finite-requires
+    (λ c κs. search needs)
     returns-4
     returns-5
     returns-6)

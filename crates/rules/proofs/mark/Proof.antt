@@ -11,12 +11,6 @@ use borrow.Author.Needs.{needs}
 use Rattle.rules.proofs.mark.Statement.{statement}
 use Rattle.rules.proofs.mark.Tie as tie
 
-answer-requires : tie.Need-answer-requires
-answer-requires c κs = search needs
-
-number-requires : tie.Need-number-requires
-number-requires c κs = search needs
-
 returns : tie.Need-returns
 unfolding marksAfter
 returns c =
@@ -24,17 +18,11 @@ returns c =
     λ e. c .if1 .taken (c .before .number .ensures ∙ c .before .before .answer .ensures ∙ e) in
     (c .before .before .answer .ensures, simp (ne-eqb _ _ refused))
 
-lines-of-requires : tie.Need-lines-of-requires
-lines-of-requires c κs = search needs
-
 fill-requires : tie.Need-fill-requires
 fill-requires c κs =
     let done = was-accepted (c .before .before .before .before .before .before .before .args .limits) (c .before .before .before .before .before .before .before .args .set .mask) (c .before .before .before .before .before .before .before .args .values .now) (length (c .before .before .before .before .before .before .before .args .marks .now))
     (sym (c .before .before .before .before .answer .ensures) ∙ sym (c .before .before .before .number .ensures) ∙ c .before .before .if1 .left) in
-    (done .few, done .wide)
-
-same-length : tie.Need-same-length
-same-length c = search needs
+    done .wide
 
 returns-2 : tie.Need-returns-2
 unfolding marksAfter marksOf
@@ -51,10 +39,10 @@ pub mark-spec : {M : Type 1} → statement M
 mark-spec =
     tie.close
     (tie.spec
-    answer-requires
-    number-requires
+    (λ c κs. search needs)
+    (λ c κs. search needs)
     returns
-    lines-of-requires
+    (λ c κs. search needs)
     fill-requires
-    same-length
+    (λ c. search needs)
     returns-2)

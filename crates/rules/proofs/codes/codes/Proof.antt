@@ -1,67 +1,46 @@
--- `rules::codes::codes` meets its contract. The codes are written one after the other, and `before` is the value before the next. Assumes nothing.
-use mathlib.Core.Path.{_≡_, refl, ap, _∙_}
-use Prim.Native.Nat.{ℕ, _+_, _-_}
+-- `rules::codes::codes` meets its contract: up to sixteen codes at a time. Assumes nothing.
+use Prim.Native.Nat.{_+_, _-_, _≤_}
 use native.Mathlib.Omega.{arith}
 use borrow.Author.Needs.{needs}
-use lib.Ieee.{Float, nan}
+use lib.Ieee.{nan}
 use lib.ListN.{length, getD}
-use Rattle.laws.proofs.Filling.{Tabling, tabling-starts, tabling-length, tabling-room, tabling-goes-on, tabling-ends}
-use Rattle.rules.specs.Codes.{codeOf, codeAt, codesOf}
+use Rattle.laws.proofs.Filling.{Tabling, tabling-starts, tabling-length, tabling-ends}
+use Rattle.rules.specs.Codes.{codeAt, codesOf}
+use Rattle.rules.proofs.Making.{codes-part}
+use Rattle.rules.proofs.Parts.{part-long, part-start, part-room, part-fills}
 use Rattle.rules.proofs.codes.codes.Statement.{statement}
 use Rattle.rules.proofs.codes.codes.Tie as tie
 
 abbrev Inv-loop : tie.InvT-loop
-Inv-loop full l values out₀ before₀ i₀ out before i = Tabling (codeAt full l values) (length values) out₀ out i × (before ≡ getD values (i - 1) nan)
+Inv-loop set l values c₀ n i₀ c i = Tabling (codeAt set l (getD values 0 nan) values) (length values) c₀ c i
 
 abbrev μ-loop : tie.MeasureT-loop
-μ-loop full l values out₀ before₀ i₀ out before i = length values - i
+μ-loop set l values c₀ n i₀ c i = length values - i
 
-returns : tie.Need-returns Inv-loop μ-loop
-unfolding codesOf
-returns c = tabling-ends (codeAt (c .before .before .before .args .full) (c .before .before .before .args .l) (c .before .before .before .args .values .now)) (length (c .before .before .before .args .values .now)) (c .before .before .before .args .out .now) (c .before .before .before .args .out .now) 0 (tabling-starts (codeAt (c .before .before .before .args .full) (c .before .before .before .args .l) (c .before .before .before .args .values .now)) (length (c .before .before .before .args .values .now)) (c .before .before .before .args .out .now) (c .before .before .before .pre)) (omega arith)
-
-shared-slice-read-before : tie.Need-shared-slice-read-before Inv-loop μ-loop
-shared-slice-read-before c = search needs
-
-loop-holds : tie.Need-loop-holds Inv-loop μ-loop
-loop-holds c = (tabling-starts (codeAt (c .before .before .before .before .args .full) (c .before .before .before .before .args .l) (c .before .before .before .before .args .values .now)) (length (c .before .before .before .before .args .values .now)) (c .before .before .before .before .args .out .now) (c .before .before .before .before .pre), refl)
-
-mul-v : tie.Need-mul-v Inv-loop μ-loop
-mul-v c = search needs
-
-shared-slice-read-v : tie.Need-shared-slice-read-v Inv-loop μ-loop
-shared-slice-read-v c = search needs
-
-code-of-requires : tie.Need-code-of-requires Inv-loop μ-loop
-code-of-requires c κs = search needs
-
-mul-out : tie.Need-mul-out Inv-loop μ-loop
-mul-out c = omega (arith, tabling-room (codeAt (c .before .before .before .before .before .before .before .before .args .full) (c .before .before .before .before .before .before .before .before .args .l) (c .before .before .before .before .before .before .before .before .args .values .now)) (length (c .before .before .before .before .before .before .before .before .args .values .now)) (c .before .before .before .before .before .before .before .before .args .out .now) (c .before .before .before .loop .out) (c .before .before .before .loop .i) (c .before .before .before .loop .inv .0) (c .before .before .loop-test .taken))
-
-slice-write-out : tie.Need-slice-write-out Inv-loop μ-loop
-slice-write-out c = tabling-room (codeAt (c .before .before .before .before .before .before .before .before .args .full) (c .before .before .before .before .before .before .before .before .args .l) (c .before .before .before .before .before .before .before .before .args .values .now)) (length (c .before .before .before .before .before .before .before .before .args .values .now)) (c .before .before .before .before .before .before .before .before .args .out .now) (c .before .before .before .loop .out) (c .before .before .before .loop .i) (c .before .before .before .loop .inv .0) (c .before .before .loop-test .taken)
-
-add-i : tie.Need-add-i Inv-loop μ-loop
-add-i c = search needs
-
-loop-less : tie.Need-loop-less Inv-loop μ-loop
-loop-less c = search needs
+next-codes-requires : tie.Need-next-codes-requires Inv-loop μ-loop
+next-codes-requires c κs =
+    let s = c .before .before .before .before .before .before .before .before .args in
+    let at = c .before .before .before .before .before in
+    let m = c .before .before .before .least in
+    let some : at .loop .i + m .result ≤ length (s .values .now) = omega (arith, m .ensures .0) in
+    let long = part-long (s .values .now) (at .loop .i) (at .loop .i + m .result) some in
+    (omega (arith, long, m .ensures .1), omega (arith, long, part-room _ _ _ _ _ (at .loop .inv) (m .result) some))
 
 loop-again : tie.Need-loop-again Inv-loop μ-loop
 loop-again c =
-    let values = c .before .before .before .before .before .before .before .before .args .values .now in
-    let i = c .before .before .before .loop .i in
-    let last : i ≡ i + 1 - 1 = omega arith in
-    let is : c .code-of .result ≡ codeAt (c .before .before .before .before .before .before .before .before .args .full) (c .before .before .before .before .before .before .before .before .args .l) values i =
-    c .code-of .ensures ∙ ap (λ (u : Float). codeOf (c .before .before .before .before .before .before .before .before .args .full) (c .before .before .before .before .before .before .before .before .args .l) u (getD values i nan)) (c .before .before .before .loop .inv .1) ∙ unfold codeAt in refl in
-    (tabling-goes-on (codeAt (c .before .before .before .before .before .before .before .before .args .full) (c .before .before .before .before .before .before .before .before .args .l) (c .before .before .before .before .before .before .before .before .args .values .now)) (length (c .before .before .before .before .before .before .before .before .args .values .now)) (c .before .before .before .before .before .before .before .before .args .out .now) (c .before .before .before .loop .out) (c .before .before .before .loop .i) (c .before .before .before .loop .inv .0) (c .code-of .result) (c .before .before .loop-test .taken) is, ap (λ (k : ℕ). getD values k nan) last)
+    let s = c .before .before .before .before .before .before .before .before .before .before .before .args in
+    let at = c .before .before .before .before .before .before .before .before in
+    let m = c .before .before .before .before .before .before .least in
+    let some : at .loop .i + m .result ≤ length (s .values .now) = omega (arith, m .ensures .0) in
+    let long = part-long (s .values .now) (at .loop .i) (at .loop .i + m .result) some in
+    let i = at .loop .i in
+    part-fills _ _ _ _ _ (at .loop .inv) (m .result) some _
+    (λ j h. codes-part (s .set) (s .l) (s .values .now) _ i (i + m .result - i) (c .before .before .before .before .before .before2 .ensures) j (omega arith))
+    _ _ (omega (arith, long)) (c .before .before .next-codes .ensures)
 
-same-length : tie.Need-same-length Inv-loop μ-loop
-same-length c = tabling-length (codeAt (c .before .before .before .before .before .before .args .full) (c .before .before .before .before .before .before .args .l) (c .before .before .before .before .before .before .args .values .now)) (length (c .before .before .before .before .before .before .args .values .now)) (c .before .before .before .before .before .before .args .out .now) (c .before .loop .out) (c .before .loop .i) (c .before .loop .inv .0)
-
-returns-2 : tie.Need-returns-2 Inv-loop μ-loop
+returns : tie.Need-returns Inv-loop μ-loop
 unfolding codesOf
-returns-2 c = tabling-ends (codeAt (c .before .before .before .before .before .before .args .full) (c .before .before .before .before .before .before .args .l) (c .before .before .before .before .before .before .args .values .now)) (length (c .before .before .before .before .before .before .args .values .now)) (c .before .before .before .before .before .before .args .out .now) (c .before .loop .out) (c .before .loop .i) (c .before .loop .inv .0) (c .loop-test .left)
+returns c = tabling-ends _ _ _ _ _ (c .before .loop .inv) (c .loop-test .left)
 
 pub codes-spec : {M : Type 1} → statement M
 codes-spec =
@@ -69,16 +48,21 @@ codes-spec =
     (tie.spec
     Inv-loop
     μ-loop
-    returns
-    shared-slice-read-before
-    loop-holds
-    mul-v
-    shared-slice-read-v
-    code-of-requires
-    mul-out
-    slice-write-out
-    add-i
-    loop-less
+    (λ c. tabling-starts _ _ _ (c .before .before .pre))
+    (λ c. search needs)
+    (λ c κs. search needs)
+    (λ c. search needs)
+    (λ c κs. search needs)
+    (λ c. search needs)
+    (λ c. search needs)
+    (λ c. search needs)
+    (λ c. search needs)
+    (λ c. search needs)
+    (λ c. omega (arith, part-start _ _ _ _ _ (c .before .before .before .before .loop .inv) 0 (omega arith)))
+    (λ c. part-start _ _ _ _ _ (c .before .before .before .before .loop .inv) 0 (omega arith))
+    (λ c. search needs)
+    next-codes-requires
+    (λ c. omega (arith, c .before .before .before .before .before .before .least .ensures .2 0 (omega arith) (omega arith)))
     loop-again
-    same-length
-    returns-2)
+    (λ c. tabling-length _ _ _ _ _ (c .before .loop .inv))
+    returns)

@@ -1,14 +1,15 @@
--- `rules::codes::pack` meets its contract: each lowest bit is shifted to its place. Assumes nothing.
-use mathlib.Core.List.{[], _∷_}
-use native.Mathlib.Omega.{arith}
-use Rattle.laws.proofs.Bits.{or-low}
+-- `rules::codes::pack` meets its contract: its masks and shifts are those of proofs/Bitwise.antt. Assumes nothing.
+use Rattle.rules.proofs.Bitwise.{pack-is}
 use Rattle.rules.proofs.codes.pack.Statement.{statement}
 use Rattle.rules.proofs.codes.pack.Tie as tie
 
 returns : tie.Need-returns
 returns c =
     let a = c .args in
-    or-low 16 (a .t0) (a .t1 ∷ a .t2 ∷ a .t3 ∷ a .t4 ∷ a .t5 ∷ a .t6 ∷ a .t7 ∷ a .t8 ∷ []) (omega arith)
+    pack-is (a .c0) (a .all5) (a .all8) (a .all9) (a .all15) (a .turns) (a .two) (a .four)
 
 pub pack-spec : {M : Type 1} → statement M
-pack-spec = tie.close (tie.spec returns)
+pack-spec =
+    tie.close
+    (tie.spec
+    returns)

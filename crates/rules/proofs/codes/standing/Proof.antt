@@ -6,9 +6,6 @@ use Rattle.rules.proofs.Bitwise.{standing-is}
 use Rattle.rules.proofs.codes.standing.Statement.{statement}
 use Rattle.rules.proofs.codes.standing.Tie as tie
 
-pack-requires : tie.Need-pack-requires
-pack-requires c κs = search needs
-
 returns : tie.Need-returns
 returns c =
     let a = c .before .args in
@@ -16,4 +13,4 @@ returns c =
     ∙ ap fromBits (standing-is (a .c0) (a .c1) (a .c2) (a .c3) (a .c4) (a .c5) (a .c6) (a .c7) (a .c8) (a .c9) (a .c10) (a .c11) (a .c12) (a .c13) (a .c14))
 
 pub standing-spec : {M : Type 1} → statement M
-standing-spec = tie.close (tie.spec pack-requires returns)
+standing-spec = tie.close (tie.spec (λ c κs. search needs) returns)
