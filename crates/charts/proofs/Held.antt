@@ -7,6 +7,7 @@ use native.Mathlib.Nat.{mul-le-mul-right, mul-le-mul-left, le-trans}
 use native.Mathlib.Omega.{arith}
 use borrow.Author.Tests.{ltb-false, eqb-true, not-false}
 use lib.Dec.{ltb, eqb}
+use Rattle.sets.specs.Sets.{tooLarge}
 use Rattle.charts.specs.declared.Chart.{Chart}
 use Rattle.charts.specs.Records.{kindWrong, subgroupWrong, sizeWrong, ownWrong, recordWrong}
 use Rattle.charts.proofs.Cases.{kind-1, subgroups, or-left, or-right}
@@ -48,7 +49,7 @@ own c h =
     let kinds = kindWrong (c .kind) in
     let sizes = sizeWrong (c .kind) (c .size) in
     let counts = ltb 4096 (c .count) in
-    let sets = ltb 511 (c .set .mask) in
+    let sets = tooLarge (c .set .mask) in
     let three = or-left (kinds || sizes || counts) sets h in
     let two = or-left (kinds || sizes) counts three in
     let right = or-right kinds sizes two in
@@ -59,7 +60,7 @@ own c h =
       some = bounds .0;
       most = bounds .1;
       few = few;
-      set-small = ltb-false 511 (c .set .mask) (or-right (kinds || sizes || counts) sets h);
+      set-small = ltb-false _ (c .set .mask) (or-right (kinds || sizes || counts) sets h);
       all = le-trans (mul-le-mul-right (c .size) few) (mul-le-mul-left 4096 (bounds .1));
     }
 

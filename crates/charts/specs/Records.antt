@@ -9,6 +9,7 @@ use lib.ListN.{length, take, drop}
 use Rattle.laws.specs.Refusals.{firstOf}
 use Rattle.laws.specs.Front.{atFront}
 use Rattle.sets.specs.declared.RuleSet.{RuleSet}
+use Rattle.sets.specs.Sets.{tooLarge}
 use Rattle.floats.specs.Finite.{allFinite}
 use Rattle.charts.specs.declared.Chart.{Chart}
 use Rattle.charts.specs.declared.Refusal.{Refusal}
@@ -53,7 +54,7 @@ sizeWrong kind size = byKind kind (not (eqb size 1)) (subgroupWrong size) (subgr
 
 -- all of it but for the slice
 unfoldable pub ownWrong : Chart → Bool
-ownWrong c = kindWrong (c .kind) || sizeWrong (c .kind) (c .size) || ltb 4096 (c .count) || ltb 511 (c .set .mask)
+ownWrong c = kindWrong (c .kind) || sizeWrong (c .kind) (c .size) || ltb 4096 (c .count) || tooLarge (c .set .mask)
 
 -- where the values have so much room
 unfoldable pub recordWrong : Chart → ℕ → Bool
@@ -80,7 +81,7 @@ newOf kind size =
 unfoldable pub withSetOf : Chart → RuleSet → ℕ × Chart
 withSetOf c set =
     firstOf
-    ((ownWrong c, (14, c)) ∷ (ltb 511 (set .mask), (4, c)) ∷ [])
+    ((ownWrong c, (14, c)) ∷ (tooLarge (set .mask), (4, c)) ∷ [])
     (0, record { kind = c .kind; size = c .size; count = c .count; set = set })
 
 -- ---- "Add: 14, 2, 3, 5, 6."

@@ -164,7 +164,7 @@ impl Chart {
         if records::own_wrong(self) {
             return Changed::Refused(Refusal::Record);
         }
-        if 511 < set.mask {
+        if RuleSet::ALL < set.mask {
             return Changed::Refused(Refusal::Set);
         }
         Changed::Done(Chart {

@@ -1,5 +1,6 @@
 // What is wrong with a record.
 use super::Chart;
+use sets::RuleSet;
 ghost use mathlib.Core.Path.{_≡_};
 ghost use Rattle.charts.specs.Records.{kindWrong, sizeWrong, ownWrong, recordWrong};
 
@@ -24,7 +25,7 @@ pub fn own_wrong(c: Chart) -> bool
 {
     let kind = kind_wrong(c.kind);
     let size = size_wrong(c.kind, c.size);
-    kind | size | (4096 < c.count) | (511 < c.set.mask)
+    kind | size | (4096 < c.count) | (RuleSet::ALL < c.set.mask)
 }
 
 // Where the values have so much room.

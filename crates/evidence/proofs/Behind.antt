@@ -12,14 +12,12 @@ use lib.Dec.{leb, eqb}
 use lib.Ieee.{Float, nan}
 use lib.ListN.{length, take, drop, getD, length-drop, List·getD-map, List·getD-append}
 use lib.Seq.{getD-take, getD-drop, take-all, length-take-le}
-use Rattle.laws.specs.Lists.{tabulateFrom, tabulate}
 use Rattle.laws.specs.Front.{atFront}
 use Rattle.laws.proofs.OneBit.{test-pow}
-use Rattle.laws.proofs.Lists.{getD-tabulate}
 use Rattle.sets.specs.declared.Test.{Test}
 use Rattle.sets.specs.declared.Test.the-variants.{BeyondLimits}
-use Rattle.sets.specs.Sets.{bitOf, tests, has, setOf}
-use Rattle.sets.proofs.Sets.{agree, has-setOf, and-setOf}
+use Rattle.sets.specs.Sets.{bitOf, tests, testOf, has, setOf}
+use Rattle.sets.proofs.Sets.{agree, bit-of-test, has-setOf, and-setOf}
 use Rattle.rules.specs.declared.Limits.{Limits}
 use Rattle.rules.specs.declared.Lines.{Lines}
 use Rattle.rules.specs.Lines.{linesOf}
@@ -27,22 +25,9 @@ use Rattle.rules.specs.Tests.{window, shows}
 use Rattle.floats.specs.Finite.{allFinite}
 use Rattle.rules.specs.Finite.{finiteLimits}
 use Rattle.rules.specs.Marking.{newestFirst, stands, marksAt, marksOf, answerOf, marksAfter}
-use Rattle.evidence.specs.Evidence.{testOf, partTo, shownAt}
+use Rattle.evidence.specs.Evidence.{partTo, shownAt}
 use Rattle.evidence.specs.Steps.{showsAlone, spanAt}
 use Rattle.rules.proofs.Meaning.{length-marks, marks-at}
-
--- ---- the test of a bit
-
-bits-in-order : map bitOf tests ≡ tabulate (λ (k : ℕ). k) 9
-unfolding bitOf tests tabulateFrom
-bits-in-order = refl
-
-pub bit-of-test : (bit : ℕ) → bit < 9 → bitOf (testOf bit) ≡ bit
-unfolding testOf
-bit-of-test bit h =
-    sym (List·getD-map bitOf tests bit BeyondLimits)
-    ∙ ap (λ (l : List ℕ). getD l bit (bitOf BeyondLimits)) bits-in-order
-    ∙ getD-tabulate (λ (k : ℕ). k) 9 bit (bitOf BeyondLimits) h
 
 -- ---- a window as a series of its own
 

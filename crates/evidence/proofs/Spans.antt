@@ -9,14 +9,14 @@ use lib.Dec.{leb, ltb}
 use lib.Ieee.{Float}
 use lib.ListN.{length}
 use Rattle.laws.proofs.Bools.{both}
-use Rattle.sets.specs.Sets.{tests}
+use Rattle.sets.specs.Sets.{tests, testOf}
 use Rattle.rules.specs.declared.Limits.{Limits}
 use Rattle.evidence.specs.declared.Span.{Span}
 use Rattle.rules.specs.Tests.{window}
 use Rattle.floats.specs.Finite.{allFinite}
 use Rattle.rules.specs.Finite.{finiteLimits}
 use Rattle.rules.specs.Marking.{newestFirst, stands}
-use Rattle.evidence.specs.Evidence.{Part, nothing, testOf, partTo, shownAt, evidenceOf}
+use Rattle.evidence.specs.Evidence.{Part, nothing, partTo, shownAt, evidenceOf}
 use Rattle.evidence.specs.Steps.{spanAt}
 use Rattle.evidence.proofs.Behind.{length-newest}
 

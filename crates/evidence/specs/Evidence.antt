@@ -6,10 +6,8 @@ use Prim.Native.Nat.{ℕ, suc, _+_, _*_, _-_}
 use denote.Ref.{RefT}
 use lib.Dec.{ltb, leb, eqb}
 use lib.Ieee.{Float}
-use lib.ListN.{length, take, drop, getD}
-use Rattle.sets.specs.declared.Test.{Test}
-use Rattle.sets.specs.declared.Test.the-variants.{BeyondLimits}
-use Rattle.sets.specs.Sets.{tests}
+use lib.ListN.{length, take, drop}
+use Rattle.sets.specs.Sets.{tests, testOf}
 use Rattle.rules.specs.declared.Limits.{Limits}
 use Rattle.rules.specs.Lines.{linesOf}
 use Rattle.rules.specs.Tests.{window}
@@ -26,10 +24,6 @@ pub record Part : Type 0 where
 -- "the empty part at the front of series 0"
 abbrev pub nothing : Part
 nothing = record { second = false; start = 0; long = 0 }
-
--- the test of a bit number
-unfoldable pub testOf : ℕ → Test
-testOf bit = getD tests bit BeyondLimits
 
 -- the n values that end at a position, as a part of the series
 abbrev pub partTo : ℕ → ℕ → List Float → List Float

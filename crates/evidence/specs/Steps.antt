@@ -4,6 +4,7 @@ use mathlib.Core.List.{List}
 use Prim.Native.Nat.{ℕ, suc, _-_}
 use lib.Ieee.{Float}
 use lib.ListN.{length}
+use Rattle.sets.specs.Sets.{testOf}
 use Rattle.rules.specs.declared.Limits.{Limits}
 use Rattle.evidence.specs.declared.Span.{Span}
 use Rattle.rules.specs.Lines.{linesOf}
@@ -11,7 +12,7 @@ use Rattle.rules.specs.Tests.{window, shows}
 use Rattle.floats.specs.Finite.{allFinite}
 use Rattle.rules.specs.Finite.{finiteLimits}
 use Rattle.rules.specs.Marking.{newestFirst}
-use Rattle.evidence.specs.Evidence.{testOf, shownAt}
+use Rattle.evidence.specs.Evidence.{shownAt}
 
 -- the values of a window and the limits are finite, and it shows the pattern
 abbrev pub showsAlone : Limits → ℕ → List Float → Bool

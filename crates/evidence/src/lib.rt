@@ -5,8 +5,9 @@ use sets::RuleSet;
 ghost use mathlib.Core.Path.{_≡_};
 ghost use Prim.Native.Nat.{_≤_, _<_};
 ghost use lib.ListN.{length};
+ghost use Rattle.sets.specs.Sets.{testOf};
 ghost use Rattle.rules.specs.Tests.{window};
-ghost use Rattle.evidence.specs.Evidence.{testOf, evidenceOf, IsPart};
+ghost use Rattle.evidence.specs.Evidence.{evidenceOf, IsPart};
 ghost use Rattle.evidence.specs.Steps.{showsAlone, spanAt};
 
 // The third column of 01's table.

@@ -71,6 +71,6 @@ module _ (kind size set count : ℕ) where
   legal k z t n =
       let few = or-left (ltb 4096 count) (ltb 2048 (count * size)) n in
       record {
-        own = rw (k, z, few, le-ltb 511 set t) refl;
+        own = rw (k, z, few, le-ltb _ set t) refl;
         few = ltb-false 2048 (count * size) (or-right (ltb 4096 count) (ltb 2048 (count * size)) n);
       }

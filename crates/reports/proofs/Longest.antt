@@ -15,7 +15,7 @@ use Rattle.groups.specs.declared.Reading.{Reading}
 use Rattle.groups.specs.declared.Reading.the-variants.{Number, Fault}
 use Rattle.groups.specs.Groups.{numberAt}
 use Rattle.sets.specs.declared.Test.{Test}
-use Rattle.sets.specs.Sets.{bitOf, tests, has}
+use Rattle.sets.specs.Sets.{bitOf, tests, tooLarge, has}
 use Rattle.sets.proofs.Sets.{bitOf-lt}
 use Rattle.floats.specs.Finite.{allFinite}
 use Rattle.charts.specs.declared.Chart.{Chart}
@@ -105,7 +105,7 @@ module _ (c : Chart) (h : Legal c) (values : List Float) where
       let kinds = kindWrong (c .kind) in
       let sizes = sizeWrong (c .kind) (c .size) in
       let counts = ltb 4096 (c .count) in
-      let two = or-left (kinds || sizes) counts (or-left (kinds || sizes || counts) (ltb 511 (c .set .mask)) (h .own)) in
+      let two = or-left (kinds || sizes) counts (or-left (kinds || sizes || counts) (tooLarge (c .set .mask)) (h .own)) in
       omega (arith, ltb-false 3 (c .kind) (or-right (ltb (c .kind) 1) (ltb 3 (c .kind)) (or-left kinds sizes two)))
 
   chart-short : length (chartText (c .kind) (c .size) (c .set .mask) (limitsOf c 0 values) (limitsOf c 1 values)
@@ -211,9 +211,9 @@ flow-fine s = by (ltb 24576 (length s))
     by false =
         number-fine 12 kindWrong s 0 _ (omega arith) (λ kind p k.
         number-fine 1 (sizeWrong kind) s p _ (omega arith) (λ size q z.
-        number-fine 4 (λ set. ltb 511 set) s q _ (omega arith) (λ set r t.
+        number-fine 4 tooLarge s q _ (omega arith) (λ set r t.
         number-fine 5 (countWrong size) s r _ (omega arith) (λ count end n.
-        values-fine s _ (legal kind size set count k z (ltb-false 511 set t) n) (count * size) end))))
+        values-fine s _ (legal kind size set count k z (ltb-false _ set t) n) (count * size) end))))
 
 text-on : (r : Said) → Fine r → length (textOn r) ≤ longest
 text-on (refused why) h = refusal-short why h

@@ -4,14 +4,13 @@ use mathlib.Core.Bool.{Bool, true, false, cond}
 use mathlib.Core.List.{List, [], _∷_, _++_, map, append-assoc}
 use Prim.Native.Nat.{ℕ, suc, _+_, _≤_, _<_}
 use native.Mathlib.Omega.{arith}
-use lib.ListN.{length, getD, drop, drop-of-length-le, length-append, List·getD-map}
+use lib.ListN.{length, getD, drop, drop-of-length-le, length-append}
 use Rattle.laws.specs.Bools.{count}
 use Rattle.laws.specs.Bits.{hasBit}
-use Rattle.laws.specs.Lists.{tabulateFrom}
-use Rattle.laws.proofs.Lists.{getD-tabulate}
 use Rattle.sets.specs.declared.Test.{Test}
 use Rattle.sets.specs.declared.Test.the-variants.{BeyondLimits}
-use Rattle.sets.specs.Sets.{bitOf, tests, has}
+use Rattle.sets.specs.Sets.{tests, testOf, has}
+use Rattle.sets.proofs.Sets.{bit-of-test}
 use Rattle.sets.proofs.Members.{none-tests}
 use Rattle.charts.specs.Evaluating.{numberOf}
 use Rattle.reports.specs.Text.{decimal, line, Mark, mark, vLine, vLines, marksIn, pointMarks, listed}
@@ -19,16 +18,8 @@ use Rattle.reports.proofs.Words.{next-is}
 
 -- ---- the tests by their bits
 
--- the test of bit t
-abbrev pub testAt : ℕ → Test
-testAt t = getD tests t BeyondLimits
-
-bit-of-test : (t : ℕ) → t < 9 → bitOf (testAt t) ≡ t
-unfolding tests bitOf tabulateFrom
-bit-of-test t h = sym (List·getD-map bitOf tests t BeyondLimits) ∙ getD-tabulate (λ k. k) 9 t 0 h
-
-tests-next : (t : ℕ) → t < 9 → drop t tests ≡ testAt t ∷ drop (t + 1) tests
-unfolding tests
+tests-next : (t : ℕ) → t < 9 → drop t tests ≡ testOf t ∷ drop (t + 1) tests
+unfolding tests testOf
 tests-next t h = next-is tests t BeyondLimits h
 
 tests-end : (t : ℕ) → 9 ≤ t → drop t tests ≡ []
@@ -47,13 +38,13 @@ module _ (series index m : ℕ) where
   unfolding marksIn
   in-cons b t ts e = ap (λ (b : Bool). cond b (mark series index t ∷ []) [] ++ marksIn series index m ts) e
 
-  next-by : (b : Bool) (t : ℕ) → t < 9 → hasBit m t ≡ b → marksFrom t ≡ cond b (mark series index (testAt t) ∷ []) [] ++ marksFrom (t + 1)
+  next-by : (b : Bool) (t : ℕ) → t < 9 → hasBit m t ≡ b → marksFrom t ≡ cond b (mark series index (testOf t) ∷ []) [] ++ marksFrom (t + 1)
   unfolding has
   next-by b t h e =
       ap (marksIn series index m) (tests-next t h)
-      ∙ in-cons b (testAt t) (drop (t + 1) tests) (ap (hasBit m) (bit-of-test t h) ∙ e)
+      ∙ in-cons b (testOf t) (drop (t + 1) tests) (ap (hasBit m) (bit-of-test t h) ∙ e)
 
-  pub test-on : (t : ℕ) → t < 9 → hasBit m t ≡ true → marksFrom t ≡ mark series index (testAt t) ∷ marksFrom (t + 1)
+  pub test-on : (t : ℕ) → t < 9 → hasBit m t ≡ true → marksFrom t ≡ mark series index (testOf t) ∷ marksFrom (t + 1)
   test-on t h e = next-by true t h e
 
   pub test-off : (t : ℕ) → t < 9 → hasBit m t ≡ false → marksFrom t ≡ marksFrom (t + 1)
@@ -66,7 +57,7 @@ module _ (series index m : ℕ) where
 -- ---- their lines
 
 -- the line of a mark has the bit of its test
-pub line-of : (series index t : ℕ) → t < 9 → vLine (mark series index (testAt t)) ≡ line 86 (map decimal (series ∷ index ∷ t ∷ []))
+pub line-of : (series index t : ℕ) → t < 9 → vLine (mark series index (testOf t)) ≡ line 86 (map decimal (series ∷ index ∷ t ∷ []))
 line-of series index t h = ap (λ (k : ℕ). line 86 (decimal series ∷ decimal index ∷ decimal k ∷ [])) (bit-of-test t h)
 
 module _ (series index m t : ℕ) where

@@ -4,9 +4,10 @@ use mathlib.Core.List.{List, [], _∷_, _++_, map, append-nil}
 use Prim.Native.Nat.{ℕ, suc, _+_, _*_, _≤_, _<_}
 use native.Mathlib.Omega.{arith}
 use lib.ListN.{length, length-append}
+use Rattle.sets.specs.Sets.{testOf}
 use Rattle.reports.specs.Text.{decimal, spaced, Mark, mark, vLine, vLines}
 use Rattle.reports.specs.TextSteps.{Measured}
-use Rattle.reports.proofs.Marks.{testAt, line-of, lines-append}
+use Rattle.reports.proofs.Marks.{line-of, lines-append}
 
 -- so many of `all` are counted, and `left` of them are to come
 pub record Measuring (all left : List Mark) (most lines len : ℕ) : Type 0 where
@@ -53,11 +54,11 @@ module _ {all left : List Mark} {most lines len : ℕ} (p : Measuring all left m
 
 -- the line of one mark
 pub line-measured : (series index t n : ℕ) → t < 9
-    → (n ≡ suc (length (spaced (map decimal (series ∷ index ∷ t ∷ []))))) × (n ≤ 65) → Measured (mark series index (testAt t) ∷ []) 1 1 n
+    → (n ≡ suc (length (spaced (map decimal (series ∷ index ∷ t ∷ []))))) × (n ≤ 65) → Measured (mark series index (testOf t) ∷ []) 1 1 n
 unfolding vLines
 line-measured series index t n h e = record {
   number = refl;
-  bytes = e .0 ∙ sym (ap length (append-nil (vLine (mark series index (testAt t))) ∙ line-of series index t h));
+  bytes = e .0 ∙ sym (ap length (append-nil (vLine (mark series index (testOf t))) ∙ line-of series index t h));
   few = omega arith;
   short = e .1;
 }

@@ -9,6 +9,7 @@ use lib.ListN.{length}
 use Rattle.groups.specs.declared.Reading.{Reading}
 use Rattle.groups.specs.declared.Reading.the-variants.{Number, Fault}
 use Rattle.groups.specs.Groups.{numberAt}
+use Rattle.sets.specs.Sets.{tooLarge}
 use Rattle.charts.specs.declared.Chart.{Chart}
 use Rattle.charts.specs.Records.{kindWrong, sizeWrong}
 
@@ -49,7 +50,7 @@ unfoldable pub headFrom : List ℕ → ℕ → Said
 headFrom s at =
     number 12 kindWrong s at (λ kind p.
     number 1 (sizeWrong kind) s p (λ size q.
-    number 4 (λ set. ltb 511 set) s q (λ set r.
+    number 4 tooLarge s q (λ set r.
     number 5 (countWrong size) s r (λ count end.
     valuesFrom s (record { kind = kind; size = size; count = count; set = record { mask = set } }) (count * size) end))))
 

@@ -82,7 +82,7 @@ fn read_head(s: &[u8]) -> Head
     else {
         return Head::Halted(12);
     };
-    if 511 < set {
+    if set > RuleSet::ALL as u64 {
         return Head::Halted(4);
     }
     let Reading::Number { value: count, next } = groups::read_number(s, fourth) else {

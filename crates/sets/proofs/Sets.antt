@@ -1,18 +1,21 @@
 -- A rule set's number and its tests: a set is made of its tests and known by them. Assumes nothing.
 use mathlib.Core.Path.{_≡_, refl, sym, ap, _∙_, fun-ext}
-use mathlib.Core.Bool.{Bool, true, false, _&&_}
+use mathlib.Core.Bool.{Bool, true, false, _&&_, cond}
 use mathlib.Core.List.{List, map}
 use Prim.Native.Nat.{ℕ, _≤_, _<_}
 use native.Mathlib.Omega.{arith}
-use lib.ListN.{getD}
+use lib.ListN.{getD, List·getD-map}
 use lib.Dec.{ltb}
 use lib.Bits.{bitAnd, and-le-r}
-use borrow.Author.Tests.{ltb-true}
+use borrow.Author.Tests.{ltb-true, lt-ltb, le-ltb}
+use Rattle.laws.specs.Lists.{tabulateFrom}
+use Rattle.laws.proofs.Lists.{getD-tabulate}
 use Rattle.laws.proofs.Bits.{has-and, fromBits-lt, has-fromBits}
 use Rattle.laws.proofs.FirstBits.{bits-again}
 use Rattle.sets.specs.declared.Test.{Test}
 use Rattle.sets.specs.declared.Test.the-variants.{BeyondLimits, NineOneSide, SixTrend, FourteenAlternating, TwoOfThreeBeyond2Sigma, FourOfFiveBeyond1Sigma, FifteenWithin1Sigma, EightBeyond1Sigma, EightOneSide}
-use Rattle.sets.specs.Sets.{bitOf, tests, has, setOf}
+use Rattle.sets.specs.declared.Found.the-variants as finding
+use Rattle.sets.specs.Sets.{bitOf, tests, testOf, testAt, has, setOf}
 use Rattle.sets.specs.Calls.{is}
 
 -- ---- the list of the tests, row by row; all else goes for every test at once
@@ -37,6 +40,24 @@ agree f g d e t = sym (at-bit f d t) ∙ ap (λ (l : List _). getD l (bitOf t) d
 pub bitOf-lt : (t : Test) → bitOf t < 9
 unfolding tests bitOf
 bitOf-lt t = ltb-true (bitOf t) 9 (agree (λ (u : Test). ltb (bitOf u) 9) (λ (u : Test). true) true refl t)
+
+-- ---- the test of a bit number
+
+pub bit-of-test : (bit : ℕ) → bit < 9 → bitOf (testOf bit) ≡ bit
+unfolding testOf tests bitOf tabulateFrom
+bit-of-test bit h = sym (List·getD-map bitOf tests bit BeyondLimits) ∙ getD-tabulate (λ k. k) 9 bit 0 h
+
+pub test-of-bit : (t : Test) → testOf (bitOf t) ≡ t
+unfolding testOf
+test-of-bit t = sym (List·getD-map (λ u. u) tests (bitOf t) BeyondLimits) ∙ at-bit (λ u. u) BeyondLimits t
+
+pub found : (bit : ℕ) → bit < 9 → testAt bit ≡ finding.Test (testOf bit)
+unfolding testAt tests
+found bit h = ap (λ (b : Bool). cond b (finding.Test (testOf bit)) finding.Nothing) (lt-ltb bit 9 h)
+
+pub not-found : (bit : ℕ) → 9 ≤ bit → testAt bit ≡ finding.Nothing
+unfolding testAt tests
+not-found bit h = ap (λ (b : Bool). cond b (finding.Test (testOf bit)) finding.Nothing) (le-ltb bit 9 h)
 
 -- ---- sets
 

@@ -3,37 +3,37 @@
 use mathlib.Core.Bool.{Bool, true, false, _&&_, _||_, not}
 use mathlib.Core.List.{List, [], _∷_, map}
 use Prim.Native.Nat.{ℕ}
-use lib.Dec.{ltb, eqb}
+use lib.Dec.{eqb}
 use Rattle.laws.specs.Bools.{count}
 use Rattle.laws.specs.Refusals.{firstOf}
 use Rattle.sets.specs.declared.Test.{Test}
-use Rattle.sets.specs.declared.Named.{Named}
-use Rattle.sets.specs.declared.Named.the-variants as naming
-use Rattle.sets.specs.declared.Changed.{Changed}
-use Rattle.sets.specs.declared.Changed.the-variants as changing
+use Rattle.sets.specs.declared.Refusal.{Refusal}
+use Rattle.sets.specs.declared.Refusal.the-variants.{TooLarge, Unknown}
+use Rattle.sets.specs.declared.Chosen.{Chosen}
+use Rattle.sets.specs.declared.Chosen.the-variants as choosing
 use Rattle.sets.specs.declared.Contained.{Contained}
 use Rattle.sets.specs.declared.Contained.the-variants as containing
 use Rattle.sets.specs.declared.Counted.{Counted}
 use Rattle.sets.specs.declared.Counted.the-variants as counting
-use Rattle.sets.specs.Sets.{bitOf, tests, has, setOf}
+use Rattle.sets.specs.Sets.{bitOf, tests, tooLarge, has, setOf}
 
--- ---- 01's number and value of each answer. A refusal's value is zero, and no for a yes or no.
+-- ---- 01's number of each refusal, and the number and the value of each answer. A refusal's value is zero, and no for a yes or no.
 
-abbrev pub named : Named → ℕ × ℕ
-named (naming.Set s) = (0, s .mask)
-named naming.Unknown = (13, 0)
+abbrev pub number : Refusal → ℕ
+number TooLarge = 4
+number Unknown = 13
 
-abbrev pub changed : Changed → ℕ × ℕ
-changed (changing.Set s) = (0, s .mask)
-changed changing.TooLarge = (4, 0)
+abbrev pub chosen : Chosen → ℕ × ℕ
+chosen (choosing.Set s) = (0, s .mask)
+chosen (choosing.Refused why) = (number why, 0)
 
 abbrev pub contained : Contained → ℕ × Bool
 contained (containing.Is b) = (0, b)
-contained containing.TooLarge = (4, false)
+contained (containing.Refused why) = (number why, false)
 
 abbrev pub counted : Counted → ℕ × ℕ
 counted (counting.Tests n) = (0, n)
-counted counting.TooLarge = (4, 0)
+counted (counting.Refused why) = (number why, 0)
 
 -- ---- with, without, contains and len
 
@@ -43,7 +43,7 @@ is t u = eqb (bitOf t) (bitOf u)
 
 -- refusal 4 with what it gives back, and else 0 with what is done
 abbrev pub unlessTooLarge : {A : Type 0} → ℕ → A → A → ℕ × A
-unlessTooLarge set nothing done = firstOf ((ltb 511 set, (4, nothing)) ∷ []) (0, done)
+unlessTooLarge set nothing done = firstOf ((tooLarge set, (4, nothing)) ∷ []) (0, done)
 
 -- the set's tests, and t
 unfoldable pub withTest : ℕ → Test → ℕ × ℕ

@@ -14,7 +14,7 @@ use Rattle.rules.specs.Tests.{window}
 use Rattle.floats.specs.Finite.{allFinite}
 use Rattle.rules.specs.Finite.{finiteLimits}
 use Rattle.rules.specs.Marking.{answerOf, marksAfter}
-use Rattle.evidence.specs.Evidence.{testOf}
+use Rattle.sets.specs.Sets.{testOf}
 use Rattle.rules.proofs.Accepted.{only-finite}
 use Rattle.evidence.proofs.Behind.{window-least, window-most, last-mark, not-shown, shown-so}
 use borrow.Author.Needs.{needs}

@@ -8,14 +8,17 @@ use Rattle.sets.proofs.Sets.{bitOf-lt}
 use Rattle.sets.proofs.mask_of.Statement.{statement}
 use Rattle.sets.proofs.mask_of.Tie as tie
 
-place-of-requires : tie.Need-place-of-requires
-place-of-requires c κs = search needs
+bit-requires : tie.Need-bit-requires
+bit-requires c κs = search needs
+
+cast-result : tie.Need-cast-result
+cast-result c = omega (arith, bitOf-lt (c .before .args .t))
 
 shl-result : tie.Need-shl-result
 shl-result c = omega (arith, bitOf-lt (c .before .args .t))
 
 returns : tie.Need-returns
-returns c = one-shl (c .place-of .result) 16 (shl-result c) ∙ ap (λ (k : ℕ). 2 ^ k) (c .place-of .ensures)
+returns c = one-shl (c .bit .result) 16 (shl-result c) ∙ ap (λ (k : ℕ). 2 ^ k) (c .bit .ensures)
 
 pub mask-of-spec : {M : Type 1} → statement M
-mask-of-spec = tie.close (tie.spec place-of-requires shl-result returns)
+mask-of-spec = tie.close (tie.spec bit-requires cast-result shl-result returns)

@@ -25,7 +25,7 @@ returns-2 c =
     let if1 = c .before .before .if1 in
     let own-wrong = c .before .before .before .own-wrong in
     let args = c .before .before .before .before .args in
-    sym (passed _ _ _ _ (told (own-wrong .ensures) (if1 .left)) ∙ refused _ _ _ _ (lt-ltb 511 (args .set .mask) (if2 .taken)))
+    sym (passed _ _ _ _ (told (own-wrong .ensures) (if1 .left)) ∙ refused _ _ _ _ (lt-ltb _ (args .set .mask) (if2 .taken)))
 
 returns-3 : tie.Need-returns-3
 unfolding withSetOf
@@ -34,7 +34,7 @@ returns-3 c =
     let if1 = c .before .before .if1 in
     let own-wrong = c .before .before .before .own-wrong in
     let args = c .before .before .before .before .args in
-    sym (passed _ _ _ _ (told (own-wrong .ensures) (if1 .left)) ∙ passed _ _ _ _ (le-ltb 511 (args .set .mask) (if2 .left)) ∙ none-applies _)
+    sym (passed _ _ _ _ (told (own-wrong .ensures) (if1 .left)) ∙ passed _ _ _ _ (le-ltb _ (args .set .mask) (if2 .left)) ∙ none-applies _)
 
 pub with-set-spec : {M : Type 1} → statement M
 with-set-spec = tie.close (tie.spec own-wrong-requires returns returns-2 returns-3)

@@ -2,8 +2,8 @@
 use mathlib.Core.Path.{sym, _∙_}
 use mathlib.Core.List.{List}
 use Prim.Native.Nat.{ℕ}
-use lib.Dec.{ltb}
 use borrow.Author.Tests.{lt-ltb, le-ltb}
+use Rattle.sets.specs.Sets.{tooLarge}
 use Rattle.charts.specs.Records.{kindWrong, sizeWrong}
 use Rattle.charts.proofs.Cases.{told}
 use Rattle.charts.proofs.Held.{size-bounds}
@@ -54,10 +54,10 @@ set c = c .before .before .set .given .0 .0
 abbrev fourth : tie.Else3 → ℕ
 fourth c = c .before .before .set .given .0 .1 .0
 
-set-passed : (c : tie.Else3) → Passed (λ set. ltb 511 set) (bytes (past-kind (past-size c))) (third (past-size c)) (set c) (fourth c)
+set-passed : (c : tie.Else3) → Passed tooLarge (bytes (past-kind (past-size c))) (third (past-size c)) (set c) (fourth c)
 set-passed c = record {
   stands = sym (c .before .before .before .before .read-number3 .ensures) ∙ c .before .before .set .given .1;
-  right = le-ltb 511 (set c) (c .if3 .left);
+  right = le-ltb _ (set c) (c .if3 .left);
 }
 
 abbrev past-set : tie.Else4 → tie.Else3
@@ -137,13 +137,16 @@ returns-5 c =
       tt,
     )
 
+cast-if3 : tie.Need-cast-if3
+cast-if3 c = search needs
+
 returns-6 : tie.Need-returns-6
 unfolding headFrom
 returns-6 c =
     let size = c .before .before .before .before .before in
     let read = sym (c .before .before .before .before .read-number3 .ensures) ∙ c .before .before .set .given .1 in (
       goes 12 _ _ _ _ (kind-passed (past-kind size)) ∙ goes 1 _ _ _ _ (size-passed size)
-          ∙ wrong-value 4 _ _ _ _ _ _ read (lt-ltb 511 _ (c .if3 .taken)),
+          ∙ wrong-value 4 _ _ _ _ _ _ read (lt-ltb _ _ (c .if3 .taken)),
       tt,
     )
 
@@ -180,8 +183,8 @@ returns-8 c =
       tt,
     )
 
-cast-t20 : tie.Need-cast-t20
-cast-t20 c = search needs
+cast-t21 : tie.Need-cast-t21
+cast-t21 c = search needs
 
 returns-9 : tie.Need-returns-9
 unfolding headFrom
@@ -213,6 +216,7 @@ read-head-spec =
     enum-known-set
     enum-told-3
     returns-5
+    cast-if3
     returns-6
     read-number-requires-4
     enum-known-count
@@ -220,5 +224,5 @@ read-head-spec =
     returns-7
     count-wrong-requires
     returns-8
-    cast-t20
+    cast-t21
     returns-9)

@@ -4,8 +4,9 @@ use native.Mathlib.Omega.{arith}
 use mathlib.Core.Path.{sym, _∙_}
 use mathlib.Core.List.{[], _∷_}
 use borrow.Author.Needs.{needs}
+use Rattle.sets.specs.Sets.{testOf}
 use Rattle.reports.specs.Text.{mark}
-use Rattle.reports.proofs.Marks.{testAt, marksFrom, test-on, test-off, tests-done}
+use Rattle.reports.proofs.Marks.{marksFrom, test-on, test-off, tests-done}
 use Rattle.reports.proofs.Measuring.{Measuring, measuring-starts, measuring-on, measuring-same, measuring-ends, line-measured}
 use Rattle.reports.proofs.text.measure_point.Statement.{statement}
 use Rattle.reports.proofs.text.measure_point.Tie as tie
@@ -50,7 +51,7 @@ loop-again c =
     let line = line-measured (args .series) (args .index) (loop .t) (len .result) (c .before .before .before .before .loop-test .taken)
     (len .ensures) in (
       omega arith,
-      measuring-on (loop .inv .1) (mark (args .series) (args .index) (testAt (loop .t)) ∷ [])
+      measuring-on (loop .inv .1) (mark (args .series) (args .index) (testOf (loop .t)) ∷ [])
           (marksFrom (args .series) (args .index) (args .m) (loop .t + 1)) 1 1 (len .result) (loop .t + 1) on line (omega arith),
     )
 

@@ -1,12 +1,12 @@
--- `sets::place_of` meets its contract: each arm gives its row of the table. Assumes nothing.
+-- `Test::bit` meets its contract: each arm gives its row of the table. Assumes nothing.
 use borrow.Author.Needs.{needs}
 use Rattle.sets.specs.Sets.{bitOf}
-use Rattle.sets.proofs.place_of.Statement.{statement}
-use Rattle.sets.proofs.place_of.Tie as tie
+use Rattle.sets.proofs.Test.bit.Statement.{statement}
+use Rattle.sets.proofs.Test.bit.Tie as tie
 
-pub place-of-spec : {M : Type 1} → statement M
+pub bit-spec : {M : Type 1} → statement M
 unfolding bitOf
-place-of-spec =
+bit-spec =
     tie.close
     (tie.spec
     (λ c. search needs)
