@@ -2,7 +2,7 @@
 -- series shows the pattern. Assumes nothing.
 use mathlib.Core.Path.{_≡_, refl, sym, ap, ap₂, _∙_}
 use mathlib.Core.Bool.{Bool, true, false, not, _&&_, cond, and-false}
-use mathlib.Core.List.{List, [], _∷_, map}
+use mathlib.Core.List.{List, [], _∷_, _++_, map}
 use Prim.Native.Nat.{ℕ, zero, suc, _+_, _-_, _^_, _≤_, _<_}
 use native.Mathlib.Nat.{add-suc, le-of-suc-le-suc}
 use native.Mathlib.Omega.{arith}
@@ -11,7 +11,8 @@ use lib.Bits.{and-comm}
 use lib.Dec.{leb, eqb}
 use lib.Ieee.{Float, nan}
 use lib.ListN.{length, take, drop, getD, length-drop, List·getD-map, List·getD-append}
-use lib.Seq.{getD-take, getD-drop, take-all, length-take-le}
+use lib.Seq.{getD-take, getD-drop, take-suc, take-all, length-take-le}
+use Rattle.laws.specs.Bools.{every}
 use Rattle.laws.specs.Front.{atFront}
 use Rattle.laws.proofs.OneBit.{test-pow}
 use Rattle.sets.specs.declared.Test.{Test}
@@ -22,10 +23,10 @@ use Rattle.rules.specs.declared.Limits.{Limits}
 use Rattle.rules.specs.declared.Lines.{Lines}
 use Rattle.rules.specs.Lines.{linesOf}
 use Rattle.rules.specs.Tests.{window, shows}
-use Rattle.floats.specs.Finite.{allFinite}
+use Rattle.floats.specs.Finite.{finite, allFinite}
 use Rattle.rules.specs.Finite.{finiteLimits}
 use Rattle.rules.specs.Marking.{newestFirst, stands, marksAt, marksOf, answerOf, marksAfter}
-use Rattle.evidence.specs.Evidence.{partTo, shownAt}
+use Rattle.evidence.specs.Evidence.{shownAt}
 use Rattle.evidence.specs.Steps.{showsAlone, spanAt}
 use Rattle.rules.proofs.Meaning.{length-marks, marks-at}
 
@@ -43,6 +44,43 @@ newest-part values s n (suc k) h =
     ap₂ _∷_ (getD-take n (drop s values) k nan h ∙ getD-drop s values k nan) (newest-part values s n k (omega arith))
     ∙ ap (λ (m : ℕ). take (suc k) (newestFirst values m)) (sym (add-suc s k))
 
+-- values are finite in either order of time
+newest-finite : (values : List Float) (k : ℕ) → k ≤ length values → allFinite (newestFirst values k) ≡ allFinite (take k values)
+unfolding newestFirst allFinite every
+newest-finite values zero h = refl
+newest-finite values (suc k) h =
+    ap (λ (b : Bool). finite (getD values k nan) && b) (newest-finite values k (omega arith))
+    ∙ sym (ap allFinite (take-suc values k nan h) ∙ with-last (take k values) (getD values k nan))
+  where
+    swap : (a b c : Bool) → (a && (b && c)) ≡ (b && (a && c))
+    swap true b c = refl
+    swap false b c = sym (and-false b)
+
+    with-last : (xs : List Float) (v : Float) → allFinite (xs ++ (v ∷ [])) ≡ (finite v && allFinite xs)
+    with-last [] v = refl
+    with-last (x ∷ xs) v = ap (λ (b : Bool). finite x && b) (with-last xs v) ∙ swap (finite x) (finite v) (allFinite xs)
+
+-- the n values that end at a position, as a part of the series
+abbrev pub partTo : ℕ → ℕ → List Float → List Float
+partTo n at values = take n (drop (suc at - n) values)
+
+-- the part of a window, newest first, is the window
+module _ (values : List Float) (at n : ℕ) (fits : n ≤ suc at) where
+  part-newest : newestFirst (partTo n at values) n ≡ take n (newestFirst values (suc at))
+  part-newest =
+      let end : suc at - n + n ≡ suc at = omega arith in
+      newest-part values (suc at - n) n n (omega arith) ∙ ap (λ (m : ℕ). take n (newestFirst values m)) end
+
+  pub length-part : at < length values → length (partTo n at values) ≡ n
+  length-part h = length-take-le n (drop (suc at - n) values) (omega (arith, length-drop (suc at - n) values))
+
+  part-finite : at < length values → allFinite (take n (newestFirst values (suc at))) ≡ allFinite (partTo n at values)
+  part-finite h =
+      let part = partTo n at values in
+      ap allFinite (sym part-newest)
+      ∙ newest-finite part n (omega (arith, length-part h))
+      ∙ ap allFinite (take-all n part (omega (arith, length-part h)))
+
 -- a window of the test's own length shows its pattern exactly where the test stands there
 module _ (l : Lines) (t : Test) where
   stands-alone : (values : List Float) → stands l (newestFirst values (window t)) t ≡ shows t l (newestFirst values (window t))
@@ -58,10 +96,8 @@ module _ (l : Lines) (t : Test) where
   unfolding stands
   stands-behind values at h =
       let past = newestFirst values (suc at) in
-      let end : suc at - window t + window t ≡ suc at = omega arith in
       ap (λ (b : Bool). b && shows t l (take (window t) past)) (le-leb (window t) (length past) (omega (arith, length-newest values (suc at))))
-      ∙ ap (λ (w : List Float). shows t l w)
-      (sym (newest-part values (suc at - window t) (window t) (window t) (omega arith) ∙ ap (λ (m : ℕ). take (window t) (newestFirst values m)) end))
+      ∙ ap (λ (w : List Float). shows t l w) (sym (part-newest values at (window t) h))
 
   -- ---- the mark of a set with this test alone
 
@@ -162,7 +198,8 @@ module _ (series : List Float) (limits : Limits) (at bit : ℕ) where
   unfolding shownAt tests
   shown-by-window h k w =
       simp (lt-ltb at (length series) h, lt-ltb bit 9 k)
-      (ap (λ (b : Bool). finiteLimits limits && (allFinite (partTo (window (testOf bit)) at series) && b)) (stands-behind (linesOf limits) (testOf bit) series at w))
+      (ap₂ (λ (a b : Bool). finiteLimits limits && (a && b)) (part-finite series at (window (testOf bit)) w h)
+      (stands-behind (linesOf limits) (testOf bit) series at w))
 
   -- the same of the part as the code takes it, where n is the window's length
   pub shown-by-part : (n : ℕ) → at < length series → bit < 9 → n ≡ window (testOf bit) → n ≤ at + 1
@@ -173,8 +210,7 @@ module _ (series : List Float) (limits : Limits) (at bit : ℕ) where
       let start : at + 1 - n ≡ suc at - window t = omega arith in
       let part : take (at + 1 - (at + 1 - n)) (drop (at + 1 - n) series) ≡ partTo (window t) at series =
       ap₂ (λ (m s : ℕ). take m (drop s series)) long start in
-      let whole : length (partTo (window t) at series) ≡ window t =
-      length-take-le (window t) (drop (suc at - window t) series) (omega (arith, length-drop (suc at - window t) series)) in
+      let whole : length (partTo (window t) at series) ≡ window t = length-part series at (window t) (omega arith) h in
       ap (showsAlone limits bit) part
       ∙ ap (λ (m : ℕ). finiteLimits limits
       && (allFinite (partTo (window t) at series) && shows t (linesOf limits) (newestFirst (partTo (window t) at series) m))) whole

@@ -7,7 +7,7 @@ use native.Mathlib.Omega.{arith}
 use borrow.Author.Tests.{leb-true, lt-leb}
 use lib.Dec.{leb, ltb}
 use lib.Ieee.{Float}
-use lib.ListN.{length}
+use lib.ListN.{length, take}
 use Rattle.laws.proofs.Bools.{both}
 use Rattle.sets.specs.Sets.{tests, testOf}
 use Rattle.rules.specs.declared.Limits.{Limits}
@@ -16,7 +16,7 @@ use Rattle.rules.specs.Tests.{window}
 use Rattle.floats.specs.Finite.{allFinite}
 use Rattle.rules.specs.Finite.{finiteLimits}
 use Rattle.rules.specs.Marking.{newestFirst, stands}
-use Rattle.evidence.specs.Evidence.{Part, nothing, partTo, shownAt, evidenceOf}
+use Rattle.evidence.specs.Evidence.{Part, nothing, shownAt, evidenceOf}
 use Rattle.evidence.specs.Steps.{spanAt}
 use Rattle.evidence.proofs.Behind.{length-newest}
 
@@ -33,7 +33,7 @@ module _ (series : List Float) (limits : Limits) (at bit : ℕ) where
       let in-range = both (ltb at (length series)) _ h .1 in
       let sound = both (ltb bit (length tests)) _ in-range .1 in
       let finite = both (finiteLimits limits) _ sound .1 in
-      let there = both (allFinite (partTo w at series)) _ finite .1 in
+      let there = both (allFinite (take w past)) _ finite .1 in
       let fits : leb w (length past) ≡ true = both (leb w (length past)) _ there .0 in
       omega (arith, leb-true w (length past) fits, length-newest series (suc at))
 

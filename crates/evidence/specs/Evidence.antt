@@ -25,17 +25,13 @@ pub record Part : Type 0 where
 abbrev pub nothing : Part
 nothing = record { second = false; start = 0; long = 0 }
 
--- the n values that end at a position, as a part of the series
-abbrev pub partTo : ℕ → ℕ → List Float → List Float
-partTo n at series = take n (drop (suc at - n) series)
-
 -- The position and the test are in range, the limits and the window's values are finite, the window fits and shows the pattern.
 unfoldable pub shownAt : List Float → Limits → ℕ → ℕ → Bool
 shownAt series limits at bit =
     ltb at (length series)
     && (ltb bit (length tests)
     && (finiteLimits limits
-    && (allFinite (partTo (window (testOf bit)) at series)
+    && (allFinite (take (window (testOf bit)) (newestFirst series (suc at)))
     && stands (linesOf limits) (newestFirst series (suc at)) (testOf bit))))
 
 -- the window that ends at the position, of the series of that number, 0 or 1
