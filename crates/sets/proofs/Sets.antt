@@ -1,22 +1,22 @@
 -- A rule set's number and its tests: a set is made of its tests and known by them. Assumes nothing.
 use mathlib.Core.Path.{_≡_, refl, sym, ap, _∙_, fun-ext}
-use mathlib.Core.Bool.{Bool, true, false, _&&_, cond}
+use mathlib.Core.Bool.{Bool, true, false, _&&_, cond, false≢true}
 use mathlib.Core.List.{List, map}
 use Prim.Native.Nat.{ℕ, _≤_, _<_}
 use native.Mathlib.Omega.{arith}
 use lib.ListN.{getD, List·getD-map}
 use lib.Dec.{ltb}
 use lib.Bits.{bitAnd, and-le-r}
-use borrow.Author.Tests.{ltb-true, lt-ltb, le-ltb}
+use borrow.Author.Tests.{ltb-true, ltb-false, lt-ltb, le-ltb}
 use Rattle.laws.specs.Lists.{tabulateFrom}
 use Rattle.laws.proofs.Lists.{getD-tabulate}
 use Rattle.laws.proofs.Bits.{has-and, fromBits-lt, has-fromBits}
 use Rattle.laws.proofs.FirstBits.{bits-again}
 use Rattle.sets.specs.declared.Test.{Test}
 use Rattle.sets.specs.declared.Test.the-variants.{BeyondLimits, NineOneSide, SixTrend, FourteenAlternating, TwoOfThreeBeyond2Sigma, FourOfFiveBeyond1Sigma, FifteenWithin1Sigma, EightBeyond1Sigma, EightOneSide}
+use Rattle.sets.specs.declared.Found.{Found}
 use Rattle.sets.specs.declared.Found.the-variants as finding
 use Rattle.sets.specs.Sets.{bitOf, tests, testOf, testAt, has, setOf}
-use Rattle.sets.specs.Calls.{is}
 
 -- ---- the list of the tests, row by row; all else goes for every test at once
 
@@ -58,6 +58,27 @@ found bit h = ap (λ (b : Bool). cond b (finding.Test (testOf bit)) finding.Noth
 pub not-found : (bit : ℕ) → 9 ≤ bit → testAt bit ≡ finding.Nothing
 unfolding testAt tests
 not-found bit h = ap (λ (b : Bool). cond b (finding.Test (testOf bit)) finding.Nothing) (le-ltb bit 9 h)
+
+-- whether there is one, and which
+abbrev told : Found → Bool × Test
+told (finding.Test t) = (true, t)
+told finding.Nothing = (false, BeyondLimits)
+
+pub was-found : (bit : ℕ) (t : Test) → testAt bit ≡ finding.Test t → (bit < 9) × (testOf bit ≡ t)
+was-found bit t e = by (ltb bit 9) refl
+  where
+    by : (b : Bool) → ltb bit 9 ≡ b → (bit < 9) × (testOf bit ≡ t)
+    by true h =
+        let below = ltb-true bit 9 h in
+        (below, ap (λ f. told f .1) (sym (found bit below) ∙ e))
+    by false h = absurd (false≢true (ap (λ f. told f .0) (sym (not-found bit (ltb-false bit 9 h)) ∙ e)))
+
+pub was-nothing : (bit : ℕ) → testAt bit ≡ finding.Nothing → 9 ≤ bit
+was-nothing bit e = by (ltb bit 9) refl
+  where
+    by : (b : Bool) → ltb bit 9 ≡ b → 9 ≤ bit
+    by true h = absurd (false≢true (ap (λ f. told f .0) (sym e ∙ found bit (ltb-true bit 9 h))))
+    by false h = ltb-false bit 9 h
 
 -- ---- sets
 
