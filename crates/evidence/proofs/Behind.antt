@@ -2,25 +2,25 @@
 -- series shows the pattern. Assumes nothing.
 use mathlib.Core.Path.{_≡_, refl, sym, ap, ap₂, _∙_}
 use mathlib.Core.Bool.{Bool, true, false, not, _&&_, cond, and-false}
-use mathlib.Core.List.{List, [], _∷_, _++_, map}
+use mathlib.Core.List.{List, [], _∷_, _++_}
 use Prim.Native.Nat.{ℕ, zero, suc, _+_, _-_, _^_, _≤_, _<_}
-use native.Mathlib.Nat.{add-suc, le-of-suc-le-suc}
+use native.Mathlib.Nat.{add-suc}
 use native.Mathlib.Omega.{arith}
 use borrow.Author.Tests.{le-leb, lt-leb, leb-true, lt-ltb, le-ltb, eq-eqb}
 use lib.Bits.{and-comm}
+use lib.Pow.{pow-lt}
 use lib.Dec.{leb, eqb}
 use lib.Ieee.{Float, nan}
-use lib.ListN.{length, take, drop, getD, length-drop, List·getD-map, List·getD-append}
+use lib.ListN.{length, take, drop, getD, replicate, length-drop, List·getD-append}
 use lib.Seq.{getD-take, getD-drop, take-suc, take-all, length-take-le}
 use Rattle.laws.specs.Bools.{every}
 use Rattle.laws.specs.Front.{atFront}
 use Rattle.laws.proofs.OneBit.{test-pow}
 use Rattle.sets.specs.declared.Test.{Test}
-use Rattle.sets.specs.declared.Test.the-variants.{BeyondLimits}
-use Rattle.sets.specs.Sets.{bitOf, tests, testOf, has, setOf}
-use Rattle.sets.proofs.Sets.{agree, bit-of-test, has-setOf, and-setOf}
+use Rattle.sets.specs.declared.Found.the-variants as finding
+use Rattle.sets.specs.Sets.{bitOf, tests, testOf, testAt, has, setOf}
+use Rattle.sets.proofs.Sets.{agree, bitOf-lt, was-found, was-nothing, has-setOf, and-setOf}
 use Rattle.rules.specs.declared.Limits.{Limits}
-use Rattle.rules.specs.declared.Lines.{Lines}
 use Rattle.rules.specs.Lines.{linesOf}
 use Rattle.rules.specs.Tests.{window, shows}
 use Rattle.floats.specs.Finite.{finite, allFinite}
@@ -28,7 +28,9 @@ use Rattle.rules.specs.Finite.{finiteLimits}
 use Rattle.rules.specs.Marking.{newestFirst, stands, marksAt, marksOf, answerOf, marksAfter}
 use Rattle.evidence.specs.Evidence.{shownAt}
 use Rattle.evidence.specs.Steps.{showsAlone, spanAt}
+use Rattle.rules.proofs.Columns.{window-most}
 use Rattle.rules.proofs.Meaning.{length-marks, marks-at}
+use Rattle.rules.proofs.Accepted.{only-finite}
 
 -- ---- a window as a series of its own
 
@@ -82,97 +84,86 @@ module _ (values : List Float) (at n : ℕ) (fits : n ≤ suc at) where
       ∙ ap allFinite (take-all n part (omega (arith, length-part h)))
 
 -- a window of the test's own length shows its pattern exactly where the test stands there
-module _ (l : Lines) (t : Test) where
-  stands-alone : (values : List Float) → stands l (newestFirst values (window t)) t ≡ shows t l (newestFirst values (window t))
+module _ (limits : Limits) (t : Test) where
+  stands-alone : (values : List Float) → stands (linesOf limits) (newestFirst values (window t)) t ≡ shows t (linesOf limits) (newestFirst values (window t))
   unfolding stands
   stands-alone values =
       let w = newestFirst values (window t) in
       let long : length w ≡ window t = length-newest values (window t) in
-      ap₂ (λ (b : Bool) (x : List Float). b && shows t l x) (le-leb (window t) (length w) (omega (arith, long)))
+      ap₂ (λ (b : Bool) (x : List Float). b && shows t (linesOf limits) x) (le-leb (window t) (length w) (omega (arith, long)))
       (take-all (window t) w (omega (arith, long)))
 
   pub stands-behind : (values : List Float) (at : ℕ) → window t ≤ suc at
-      → stands l (newestFirst values (suc at)) t ≡ shows t l (newestFirst (partTo (window t) at values) (window t))
+      → stands (linesOf limits) (newestFirst values (suc at)) t ≡ shows t (linesOf limits) (newestFirst (partTo (window t) at values) (window t))
   unfolding stands
   stands-behind values at h =
       let past = newestFirst values (suc at) in
-      ap (λ (b : Bool). b && shows t l (take (window t) past)) (le-leb (window t) (length past) (omega (arith, length-newest values (suc at))))
-      ∙ ap (λ (w : List Float). shows t l w) (sym (part-newest values at (window t) h))
+      ap (λ (b : Bool). b && shows t (linesOf limits) (take (window t) past)) (le-leb (window t) (length past) (omega (arith, length-newest values (suc at))))
+      ∙ ap (λ (w : List Float). shows t (linesOf limits) w) (sym (part-newest values at (window t) h))
 
   -- ---- the mark of a set with this test alone
 
   pub mark-alone : (values : List Float) (i : ℕ) → suc i ≡ window t
-      → not (eqb (marksAt l (2 ^ bitOf t) values i) 0) ≡ shows t l (newestFirst values (window t))
+      → not (eqb (marksAt (linesOf limits) (2 ^ bitOf t) values i) 0) ≡ shows t (linesOf limits) (newestFirst values (window t))
   unfolding marksAt
   mark-alone values i e =
-      let p : Test → Bool = stands l (newestFirst values (suc i)) in
+      let p : Test → Bool = stands (linesOf limits) (newestFirst values (suc i)) in
       ap (λ (m : ℕ). not (eqb m 0)) (sym (and-setOf (2 ^ bitOf t) p) ∙ and-comm (2 ^ bitOf t) (setOf p))
       ∙ test-pow (setOf p) (bitOf t)
       ∙ unfold has in has-setOf p t
-      ∙ ap (λ (k : ℕ). stands l (newestFirst values k) t) e
+      ∙ ap (λ (k : ℕ). stands (linesOf limits) (newestFirst values k) t) e
       ∙ stands-alone values
 
--- ---- the window lengths
+-- ---- the window marked as a series of its own
 
-window-bounds : (t : Test) → (1 ≤ window t) × (window t ≤ 15)
+window-least : (t : Test) → 1 ≤ window t
 unfolding tests window
-window-bounds t = (
-  leb-true 1 (window t) (agree (λ (u : Test). leb 1 (window u)) (λ (u : Test). true) true refl t),
-  leb-true (window t) 15 (agree (λ (u : Test). leb (window u) 15) (λ (u : Test). true) true refl t),
-)
+window-least t = leb-true 1 (window t) (agree (λ (u : Test). leb 1 (window u)) (λ (u : Test). true) true refl t)
 
-pub window-least : (t : Test) → 1 ≤ window t
-window-least t = window-bounds t .0
+-- `part` has the length of the test's window
+pub part-bounds : (t : Test) (part : List Float) → length part ≡ window t → (1 ≤ length part) × (length part ≤ 15)
+part-bounds t part long = (omega (arith, window-least t), omega (arith, window-most t))
 
-pub window-most : (t : Test) → window t ≤ 15
-window-most t = window-bounds t .1
+module _ (limits : Limits) (t : Test) (part : List Float) (long : length part ≡ window t) (set : ℕ) (alone : set ≡ 2 ^ bitOf t) where
+  -- only the finite decide whether it is refused
+  by-finite : answerOf limits set part 15 ≡ cond (finiteLimits limits && allFinite part) 0 3
+  by-finite =
+      let small : 2 ^ bitOf t < 2 ^ 9 = pow-lt (bitOf-lt t) in
+      let most = part-bounds t part long .1 in
+      only-finite limits set part 15 (omega arith) (omega arith) most
 
-windows : map window tests ≡ 1 ∷ 9 ∷ 6 ∷ 14 ∷ 3 ∷ 5 ∷ 15 ∷ 8 ∷ 8 ∷ []
-unfolding tests window
-windows = refl
+  pub refused-alone : (answerOf limits set part 15 ≡ 0 → ⊥) → false ≡ showsAlone limits t part
+  refused-alone h = by (finiteLimits limits) (allFinite part) _ by-finite
+    where
+      by : (f a x : Bool) → answerOf limits set part 15 ≡ cond (f && a) 0 3 → false ≡ (f && (a && x))
+      by true true x e = absurd (h e)
+      by true false x e = refl
+      by false a x e = refl
 
-pub window-at : (bit : ℕ) → bit < 9 → getD (1 ∷ 9 ∷ 6 ∷ 14 ∷ 3 ∷ 5 ∷ 15 ∷ 8 ∷ 8 ∷ []) bit 0 ≡ window (testOf bit)
-unfolding testOf tests
-window-at bit h =
-    ap (λ (l : List ℕ). getD l bit 0) (sym windows)
-    ∙ getD-default (map window tests) bit 0 (window BeyondLimits) h
-    ∙ List·getD-map window tests bit BeyondLimits
-  where
-    getD-default : (l : List ℕ) (i d e : ℕ) → i < length l → getD l i d ≡ getD l i e
-    getD-default [] i d e q = absurd (omega arith)
-    getD-default (x ∷ l) zero d e q = refl
-    getD-default (x ∷ l) (suc i) d e q = getD-default l i d e (le-of-suc-le-suc q)
+  last-mark : answerOf limits set part 15 ≡ 0
+      → not (eqb (getD (marksAfter limits set part (replicate 15 0)) (length part - 1) 0) 0) ≡ shows t (linesOf limits) (newestFirst part (length part))
+  unfolding marksAfter
+  last-mark e =
+      let old = replicate {A = ℕ} 15 0 in
+      let i = length part - 1 in
+      let least = part-bounds t part long .0 in
+      let last : suc i ≡ window t = omega arith in
+      let marks = marksOf limits set part in
+      let within : i < length marks = omega (arith, length-marks limits set part) in
+      ap (λ (b : Bool). not (eqb (getD (cond b (atFront marks old) old) i 0) 0)) (eq-eqb _ _ e)
+      ∙ ap (λ (m : ℕ). not (eqb m 0)) (List·getD-append marks (drop (length marks) old) 0 i within ∙ marks-at limits set part i (omega arith))
+      ∙ ap (λ (k : ℕ). not (eqb (marksAt (linesOf limits) k part i) 0)) alone
+      ∙ mark-alone limits t part i last
+      ∙ ap (λ (k : ℕ). shows t (linesOf limits) (newestFirst part k)) (sym long)
 
--- ---- the last mark of the window
-
-pub last-mark : (limits : Limits) (bit : ℕ) (part : List Float) (old : List ℕ) → bit < 9 → length part ≡ window (testOf bit)
-    → answerOf limits (2 ^ bit) part (length old) ≡ 0
-    → not (eqb (getD (marksAfter limits (2 ^ bit) part old) (length part - 1) 0) 0)
-    ≡ shows (testOf bit) (linesOf limits) (newestFirst part (length part))
-unfolding marksAfter
-last-mark limits bit part old h long e =
-    let t = testOf bit in
-    let i = length part - 1 in
-    let least : 1 ≤ length part = omega (arith, window-least t) in
-    let last : suc i ≡ window t = omega arith in
-    let within : i < length (marksOf limits (2 ^ bit) part) = omega (arith, length-marks limits (2 ^ bit) part) in
-    ap (λ (b : Bool). not (eqb (getD (cond b (atFront (marksOf limits (2 ^ bit) part) old) old) i 0) 0)) (eq-eqb _ _ e)
-    ∙ ap (λ (m : ℕ). not (eqb m 0))
-    (List·getD-append (marksOf limits (2 ^ bit) part) (drop (length (marksOf limits (2 ^ bit) part)) old) 0 i within ∙ marks-at limits (2 ^ bit) part i (omega arith))
-    ∙ ap (λ (k : ℕ). not (eqb (marksAt (linesOf limits) (2 ^ k) part i) 0)) (sym (bit-of-test bit h))
-    ∙ mark-alone (linesOf limits) t part i last
-    ∙ ap (λ (k : ℕ). shows t (linesOf limits) (newestFirst part k)) (sym long)
-
--- by the answer, which only the finite decide
-pub not-shown : (f a x : Bool) (n : ℕ) → n ≡ cond (f && a) 0 3 → (n ≡ 0 → ⊥) → false ≡ (f && (a && x))
-not-shown true true x n e h = absurd (h e)
-not-shown true false x n e h = refl
-not-shown false a x n e h = refl
-
-pub shown-so : (f a x y : Bool) (n : ℕ) → n ≡ cond (f && a) 0 3 → n ≡ 0 → y ≡ x → y ≡ (f && (a && x))
-shown-so true true x y n e h is = is
-shown-so true false x y n e h is = absurd (omega arith)
-shown-so false a x y n e h is = absurd (omega arith)
+  pub marked-alone : answerOf limits set part 15 ≡ 0
+      → not (eqb (getD (marksAfter limits set part (replicate 15 0)) (length part - 1) 0) 0) ≡ showsAlone limits t part
+  marked-alone done = by (finiteLimits limits) (allFinite part) _ _ by-finite (last-mark done)
+    where
+      by : (f a x y : Bool) → answerOf limits set part 15 ≡ cond (f && a) 0 3 → y ≡ x → y ≡ (f && (a && x))
+      by true true x y e is = is
+      by true false x y e is = absurd (omega arith)
+      by false a x y e is = absurd (omega arith)
 
 -- ---- what is shown at a position
 
@@ -181,16 +172,11 @@ module _ (series : List Float) (limits : Limits) (at bit : ℕ) where
   unfolding shownAt
   past-the-series h = simp (le-ltb at (length series) h)
 
-  pub no-such-test : 9 ≤ bit → shownAt series limits at bit ≡ false
+  pub no-such-test : testAt bit ≡ finding.Nothing → shownAt series limits at bit ≡ false
   unfolding shownAt tests
-  no-such-test h = simp (le-ltb bit 9 h, and-false)
+  no-such-test e = simp (le-ltb bit 9 (was-nothing bit e), and-false)
 
-  pub no-such-window : suc at < window (testOf bit) → shownAt series limits at bit ≡ false
-  unfolding shownAt stands
-  no-such-window h =
-      simp (lt-leb (window (testOf bit)) (length (newestFirst series (suc at))) (omega (arith, length-newest series (suc at))), and-false)
-
-  pub shown-by-window : at < length series → bit < 9 → window (testOf bit) ≤ suc at
+  shown-by-window : at < length series → bit < 9 → window (testOf bit) ≤ suc at
       → shownAt series limits at bit
       ≡ (finiteLimits limits
       && (allFinite (partTo (window (testOf bit)) at series)
@@ -199,31 +185,43 @@ module _ (series : List Float) (limits : Limits) (at bit : ℕ) where
   shown-by-window h k w =
       simp (lt-ltb at (length series) h, lt-ltb bit 9 k)
       (ap₂ (λ (a b : Bool). finiteLimits limits && (a && b)) (part-finite series at (window (testOf bit)) w h)
-      (stands-behind (linesOf limits) (testOf bit) series at w))
-
-  -- the same of the part as the code takes it, where n is the window's length
-  pub shown-by-part : (n : ℕ) → at < length series → bit < 9 → n ≡ window (testOf bit) → n ≤ at + 1
-      → showsAlone limits bit (take (at + 1 - (at + 1 - n)) (drop (at + 1 - n) series)) ≡ shownAt series limits at bit
-  shown-by-part n h k e w =
-      let t = testOf bit in
-      let long : at + 1 - (at + 1 - n) ≡ window t = omega arith in
-      let start : at + 1 - n ≡ suc at - window t = omega arith in
-      let part : take (at + 1 - (at + 1 - n)) (drop (at + 1 - n) series) ≡ partTo (window t) at series =
-      ap₂ (λ (m s : ℕ). take m (drop s series)) long start in
-      let whole : length (partTo (window t) at series) ≡ window t = length-part series at (window t) (omega arith) h in
-      ap (showsAlone limits bit) part
-      ∙ ap (λ (m : ℕ). finiteLimits limits
-      && (allFinite (partTo (window t) at series) && shows t (linesOf limits) (newestFirst (partTo (window t) at series) m))) whole
-      ∙ sym (shown-by-window h k (omega arith))
+      (stands-behind limits (testOf bit) series at w))
 
   pub no-span : shownAt series limits at bit ≡ false → spanAt series limits at bit ≡ record { start = 0; end = 0 }
   unfolding spanAt
   no-span e = simp e
 
-  pub a-span : (n : ℕ) → n ≡ window (testOf bit) → shownAt series limits at bit ≡ true
-      → spanAt series limits at bit ≡ record { start = at + 1 - n; end = at + 1 }
-  unfolding spanAt
-  a-span n e s =
-      let start : suc at - window (testOf bit) ≡ at + 1 - n = omega arith in
-      let end : suc at ≡ at + 1 = omega arith in
-      simp s (ap₂ (λ (x y : ℕ). record { start = x; end = y }) start end)
+  -- the test that the code finds, and the n values of its window
+  module _ (t : Test) (is : testAt bit ≡ finding.Test t) (n : ℕ) (long : n ≡ window t) where
+    same : testOf bit ≡ t
+    same = was-found bit t is .1
+
+    longs : n ≡ window (testOf bit)
+    longs = long ∙ ap window (sym same)
+
+    pub no-such-window : at + 1 < n → shownAt series limits at bit ≡ false
+    unfolding shownAt stands
+    no-such-window h =
+        let past = newestFirst series (suc at) in
+        simp (lt-leb (window (testOf bit)) (length past) (omega (arith, longs, length-newest series (suc at))), and-false)
+
+    pub shown-by-part : at < length series → n ≤ at + 1
+        → showsAlone limits t (take (at + 1 - (at + 1 - n)) (drop (at + 1 - n) series)) ≡ shownAt series limits at bit
+    shown-by-part h w =
+        let m = window (testOf bit) in
+        let fits : m ≤ suc at = omega (arith, longs) in
+        let length-is : at + 1 - (at + 1 - n) ≡ m = omega (arith, longs) in
+        let start : at + 1 - n ≡ suc at - m = omega (arith, longs) in
+        ap (λ (u : Test). showsAlone limits u (take (at + 1 - (at + 1 - n)) (drop (at + 1 - n) series))) (sym same)
+        ∙ ap (showsAlone limits (testOf bit)) (ap₂ (λ (x y : ℕ). take x (drop y series)) length-is start)
+        ∙ ap (λ (k : ℕ). finiteLimits limits
+        && (allFinite (partTo m at series) && shows (testOf bit) (linesOf limits) (newestFirst (partTo m at series) k)))
+        (length-part series at m fits h)
+        ∙ sym (shown-by-window h (was-found bit t is .0) fits)
+
+    pub a-span : shownAt series limits at bit ≡ true → spanAt series limits at bit ≡ record { start = at + 1 - n; end = at + 1 }
+    unfolding spanAt
+    a-span s =
+        let start : suc at - window (testOf bit) ≡ at + 1 - n = omega (arith, longs) in
+        let end : suc at ≡ at + 1 = omega arith in
+        simp s (ap₂ (λ (x y : ℕ). record { start = x; end = y }) start end)

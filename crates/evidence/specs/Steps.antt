@@ -4,6 +4,7 @@ use mathlib.Core.List.{List}
 use Prim.Native.Nat.{ℕ, suc, _-_}
 use lib.Ieee.{Float}
 use lib.ListN.{length}
+use Rattle.sets.specs.declared.Test.{Test}
 use Rattle.sets.specs.Sets.{testOf}
 use Rattle.rules.specs.declared.Limits.{Limits}
 use Rattle.evidence.specs.declared.Span.{Span}
@@ -15,9 +16,8 @@ use Rattle.rules.specs.Marking.{newestFirst}
 use Rattle.evidence.specs.Evidence.{shownAt}
 
 -- the values of a window and the limits are finite, and it shows the pattern
-abbrev pub showsAlone : Limits → ℕ → List Float → Bool
-showsAlone limits bit part =
-    finiteLimits limits && (allFinite part && shows (testOf bit) (linesOf limits) (newestFirst part (length part)))
+abbrev pub showsAlone : Limits → Test → List Float → Bool
+showsAlone limits t part = finiteLimits limits && (allFinite part && shows t (linesOf limits) (newestFirst part (length part)))
 
 -- where it starts and ends in its series, or 0 and 0 where there is none
 unfoldable pub spanAt : List Float → Limits → ℕ → ℕ → Span

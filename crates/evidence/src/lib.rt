@@ -1,34 +1,24 @@
 // The window behind a mark.
 use rules::Limits;
 use rules::mark;
+use sets::Found;
 use sets::RuleSet;
+use sets::Test;
 ghost use mathlib.Core.Path.{_≡_};
-ghost use Prim.Native.Nat.{_≤_, _<_};
+ghost use Prim.Native.Nat.{_≤_};
 ghost use lib.ListN.{length};
-ghost use Rattle.sets.specs.Sets.{testOf};
 ghost use Rattle.rules.specs.Tests.{window};
 ghost use Rattle.evidence.specs.Evidence.{evidenceOf, IsPart};
 ghost use Rattle.evidence.specs.Steps.{showsAlone, spanAt};
 
-// The third column of 01's table.
-const WINDOWS: [usize; 9] = [1, 9, 6, 14, 3, 5, 15, 8, 8];
-
-// The window length of a test, by its bit number.
-fn window_of(bit: u64) -> usize
-    requires { ⌜ bit < 9 ⌝ }
-    ensures { λ r. ⌜ r ≡ window (testOf bit) ⌝ }
-{
-    WINDOWS[bit as usize]
-}
-
 // Whether a window of a test's length shows its pattern, its values and the limits being finite: the window is marked
 // as a series of its own, by a set with this test alone.
-fn shows_pattern(part: &[f64], limits: Limits, bit: u64) -> bool
-    requires { ⌜ (length (now part) ≡ window (testOf bit)) × (bit < 9) ⌝ }
-    ensures { λ r. ⌜ r ≡ showsAlone limits bit (now (part .entry)) ⌝ }
+fn shows_pattern(part: &[f64], limits: Limits, t: Test) -> bool
+    requires { ⌜ length (now part) ≡ window t ⌝ }
+    ensures { λ r. ⌜ r ≡ showsAlone limits t (now (part .entry)) ⌝ }
 {
     let mut marks = [0u16; 15];
-    let set = RuleSet { mask: 1 << bit };
+    let set = RuleSet { mask: 1 << t.bit() };
     let answered = mark(part, limits, set, &mut marks);
     if answered.number() != 0 {
         return false;
@@ -49,16 +39,16 @@ fn span_at(series: &[f64], limits: Limits, at: usize, bit: u64) -> Span
     if series.len() <= at {
         return Span { start: 0, end: 0 };
     }
-    if 9 <= bit {
+    let Found::Test(t) = Test::from_bit(bit) else {
         return Span { start: 0, end: 0 };
-    }
-    let n = window_of(bit);
+    };
+    let n = rules::window(t);
     let end = at + 1;
     if end < n {
         return Span { start: 0, end: 0 };
     }
     let start = end - n;
-    if shows_pattern(&series[start..end], limits, bit) {
+    if shows_pattern(&series[start..end], limits, t) {
         return Span { start, end };
     }
     Span { start: 0, end: 0 }

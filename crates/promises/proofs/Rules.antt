@@ -1,4 +1,4 @@
--- Marking. Assumes nothing.
+-- Marking, and the window of a test. Assumes nothing.
 use mathlib.Core.Path.{sym, ap₂, _∙_}
 use mathlib.Core.List.{List}
 use Prim.Native.Nat.{ℕ}
@@ -11,6 +11,8 @@ use Rattle.rules.proofs.Marked.number.Reads as number
 use Rattle.rules.proofs.Marked.number.Kinds as number-kinds
 use Rattle.rules.proofs.finite_limits.Reads as finite-limits
 use Rattle.rules.proofs.finite_limits.Kinds as finite-limits-kinds
+use Rattle.rules.proofs.window.Reads as window
+use Rattle.rules.proofs.window.Kinds as window-kinds
 use Rattle.promises.proofs.Coincide.{Coincide}
 
 mark-one : Coincide 2 mark-kinds.ps mark-kinds.r mark.Post {Seen = Marked × List ℕ} (λ κs x s. (x, now (s .1 .1 .1 .0)))
@@ -22,3 +24,6 @@ number-one κs a x y s t p q = p ∙ sym q
 
 finite-limits-one : Coincide 0 finite-limits-kinds.ps finite-limits-kinds.r finite-limits.Post (λ κs x s. x)
 finite-limits-one κs a x y s t p q = p ∙ sym q
+
+window-one : Coincide 0 window-kinds.ps window-kinds.r window.Post (λ κs x s. x)
+window-one κs a x y s t p q = p ∙ sym q

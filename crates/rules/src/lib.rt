@@ -2,9 +2,11 @@
 mod codes;
 
 use sets::RuleSet;
+use sets::Test;
 ghost use mathlib.Core.Path.{_≡_};
 ghost use lib.ListN.{length};
-ghost use Rattle.rules.specs.Lines.{linesOf};
+ghost use Rattle.rules.specs.Lines.{widthsOf, linesOf};
+ghost use Rattle.rules.specs.Tests.{window};
 ghost use Rattle.rules.specs.Finite.{finiteLimits};
 ghost use Rattle.rules.specs.Marking.{numbered, answerOf, marksAfter};
 
@@ -15,15 +17,35 @@ pub struct Limits {
     pub lcl: f64,
 }
 
-/// The lines that the tests compare with: the limits, and one and two sigma above and below the centre line.
-pub struct Lines {
-    pub ucl: f64,
-    pub cl: f64,
-    pub lcl: f64,
-    pub above1: f64,
-    pub below1: f64,
-    pub above2: f64,
-    pub below2: f64,
+// The zone widths: one and two sigma.
+struct Widths {
+    one: f64,
+    two: f64,
+}
+
+// The lines that the tests compare with: the limits, and one and two sigma above and below the centre line.
+struct Lines {
+    ucl: f64,
+    cl: f64,
+    lcl: f64,
+    above1: f64,
+    below1: f64,
+    above2: f64,
+    below2: f64,
+}
+
+// The third column of 01's table.
+const WINDOWS: [usize; 9] = [1, 9, 6, 14, 3, 5, 15, 8, 8];
+
+/// How many values the window of a test has.
+///
+/// Refuses nothing.
+///
+/// Of `Test::FifteenWithin1Sigma` it is 15.
+pub fn window(t: Test) -> usize
+    ensures { λ r. ⌜ r ≡ window t ⌝ }
+{
+    WINDOWS[t.bit() as usize]
 }
 
 /// What marking answers.
@@ -69,20 +91,28 @@ pub fn finite_limits(l: Limits) -> bool
     (upper & centre) & lower
 }
 
-// The lines of the limits.
-fn lines_of(l: Limits) -> Lines
-    ensures { λ r. ⌜ r ≡ linesOf l ⌝ }
+// The zone widths of the limits.
+fn widths_of(l: Limits) -> Widths
+    ensures { λ r. ⌜ r ≡ widthsOf l ⌝ }
 {
     let s = (l.ucl - l.cl) / 3.0;
     let t = 2.0 * s;
+    Widths { one: s, two: t }
+}
+
+// The lines of the limits: the same widths serve below the centre.
+fn lines_of(l: Limits) -> Lines
+    ensures { λ r. ⌜ r ≡ linesOf l ⌝ }
+{
+    let w = widths_of(l);
     Lines {
         ucl: l.ucl,
         cl: l.cl,
         lcl: l.lcl,
-        above1: l.cl + s,
-        below1: l.cl - s,
-        above2: l.cl + t,
-        below2: l.cl - t,
+        above1: l.cl + w.one,
+        below1: l.cl - w.one,
+        above2: l.cl + w.two,
+        below2: l.cl - w.two,
     }
 }
 

@@ -1,39 +1,45 @@
 -- `evidence::shows_pattern` meets its contract: the window's last mark is its pattern's. Assumes nothing.
 use mathlib.Core.Path.{_≡_, sym, ap, _∙_}
-use mathlib.Core.Bool.{not, _&&_, cond}
+use mathlib.Core.Bool.{not}
 use mathlib.Core.List.{List}
-use Prim.Native.Nat.{ℕ, _*_, _-_, _%_, _^_, _<_}
+use Prim.Native.Nat.{ℕ, _*_, _-_, _%_, _^_}
 use native.Mathlib.Omega.{arith}
 use lib.Dec.{eqb}
-use lib.Ieee.{Float}
-use lib.ListN.{length, getD, replicate}
-use lib.Pow.{pow-lt}
+use lib.ListN.{length, getD}
 use Rattle.laws.proofs.OneBit.{one-shl}
-use Rattle.rules.specs.declared.Limits.{Limits}
-use Rattle.rules.specs.Tests.{window}
-use Rattle.floats.specs.Finite.{allFinite}
-use Rattle.rules.specs.Finite.{finiteLimits}
-use Rattle.rules.specs.Marking.{answerOf, marksAfter}
-use Rattle.sets.specs.Sets.{testOf}
-use Rattle.rules.proofs.Accepted.{only-finite}
-use Rattle.evidence.proofs.Behind.{window-least, window-most, last-mark, not-shown, shown-so}
+use Rattle.sets.specs.Sets.{bitOf}
+use Rattle.sets.proofs.Sets.{bitOf-lt}
+use Rattle.rules.specs.Marking.{answerOf}
+use Rattle.evidence.proofs.Behind.{part-bounds, refused-alone, marked-alone}
 use borrow.Author.Needs.{needs}
 use Rattle.evidence.proofs.shows_pattern.Statement.{statement}
 use Rattle.evidence.proofs.shows_pattern.Tie as tie
 
--- what marking the window answers
-by-finite : (limits : Limits) (bit : ℕ) (part : List Float) → bit < 9 → length part ≡ window (testOf bit)
-    → answerOf limits ((1 * 2 ^ bit) % 2 ^ 16) part 15 ≡ cond (finiteLimits limits && allFinite part) 0 3
-by-finite limits bit part h long =
-    let mask = one-shl bit 16 (omega arith) in
-    let small : 2 ^ bit < 2 ^ 9 = pow-lt h in
-    only-finite limits ((1 * 2 ^ bit) % 2 ^ 16) part 15 (omega (arith, window-most (testOf bit))) (omega (arith, mask)) (omega (arith, window-most (testOf bit)))
+-- ---- the mask of the test alone, and what marking by it answers
 
-cast-t7 : tie.Need-cast-t7
-cast-t7 c = search needs
+abbrev mask : tie.After-bit → ℕ
+mask c = (1 * 2 ^ c .bit .result) % 2 ^ 16
 
-shl-t8 : tie.Need-shl-t8
-shl-t8 c = search needs
+alone : (c : tie.After-bit) → mask c ≡ 2 ^ bitOf (c .before .before .args .t)
+alone c =
+    one-shl (c .bit .result) 16 (omega (arith, c .bit .ensures, bitOf-lt (c .before .before .args .t))) ∙ ap (λ (k : ℕ). 2 ^ k) (c .bit .ensures)
+
+abbrev start : tie.After-number → tie.Start
+start c = c .before .before .before .before .before .before
+
+answered : (c : tie.After-number) → c .number .result ≡ answerOf (start c .args .limits) (mask (c .before .before .before .before)) (start c .args .part .now) 15
+answered c = c .number .ensures ∙ c .before .before .mark .ensures .0
+
+-- ---- the needs
+
+bit-requires : tie.Need-bit-requires
+bit-requires c κs = search needs
+
+cast-t8 : tie.Need-cast-t8
+cast-t8 c = omega (arith, c .bit .ensures, bitOf-lt (c .before .before .args .t))
+
+shl-t9 : tie.Need-shl-t9
+shl-t9 c = omega (arith, c .bit .ensures, bitOf-lt (c .before .before .args .t))
 
 slice-aggregate-mark : tie.Need-slice-aggregate-mark
 slice-aggregate-mark c = search needs
@@ -46,36 +52,36 @@ number-requires c κs = search needs
 
 returns : tie.Need-returns
 returns c =
-    not-shown (finiteLimits (c .before .before .before .before .before .before .args .limits)) (allFinite (c .before .before .before .before .before .before .args .part .now)) _ (c .before .number .result)
-    (c .before .number .ensures ∙ c .before .before .before .mark .ensures .0 ∙ by-finite (c .before .before .before .before .before .before .args .limits) (c .before .before .before .before .before .before .args .bit) (c .before .before .before .before .before .before .args .part .now) (c .before .before .before .before .before .before .pre .1) (c .before .before .before .before .before .before .pre .0)) (c .if1 .taken)
+    let s = start (c .before) in
+    refused-alone (s .args .limits) (s .args .t) (s .args .part .now) (s .pre) _ (alone (c .before .before .before .before .before))
+    (λ e. c .if1 .taken (answered (c .before) ∙ e))
 
 sub-result : tie.Need-sub-result
-sub-result c = omega (arith, c .before .before .before .before .before .before .pre .0, window-least (testOf (c .before .before .before .before .before .before .args .bit)))
+sub-result c =
+    let s = start (c .before) in
+    part-bounds (s .args .t) (s .args .part .now) (s .pre) .0
 
 mul-result : tie.Need-mul-result
 mul-result c = search needs
 
 array-read-result : tie.Need-array-read-result
-array-read-result c = omega (arith, c .before .before .before .before .before .before .pre .0, window-least (testOf (c .before .before .before .before .before .before .args .bit)), window-most (testOf (c .before .before .before .before .before .before .args .bit)))
+array-read-result c =
+    let s = start (c .before) in
+    omega (arith, part-bounds (s .args .t) (s .args .part .now) (s .pre))
 
 returns-2 : tie.Need-returns-2
 returns-2 c =
-    let a = c .before .before .before .before .before .before .args in
-    let mask = one-shl (a .bit) 16 (omega (arith, c .before .before .before .before .before .before .pre .1)) in
-    let answered : c .before .number .result ≡ answerOf (a .limits) ((1 * 2 ^ a .bit) % 2 ^ 16) (a .part .now) 15 = c .before .number .ensures ∙ c .before .before .before .mark .ensures .0 in
-    shown-so (finiteLimits (a .limits)) (allFinite (a .part .now)) _ _ (c .before .number .result)
-    (answered ∙ by-finite (a .limits) (a .bit) (a .part .now) (c .before .before .before .before .before .before .pre .1) (c .before .before .before .before .before .before .pre .0)) (c .if1 .left)
-    (ap (λ (m : List ℕ). not (eqb (getD m (length (a .part .now) - 1) 0) 0))
-    (c .before .before .before .mark .ensures .1 ∙ ap (λ (k : ℕ). marksAfter (a .limits) k (a .part .now) (replicate 15 0)) mask)
-    ∙ last-mark (a .limits) (a .bit) (a .part .now) (replicate 15 0) (c .before .before .before .before .before .before .pre .1) (c .before .before .before .before .before .before .pre .0)
-    (ap (λ (k : ℕ). answerOf (a .limits) k (a .part .now) 15) (sym mask) ∙ sym answered ∙ c .if1 .left))
+    let s = start (c .before) in
+    ap (λ (m : List ℕ). not (eqb (getD m (length (s .args .part .now) - 1) 0) 0)) (c .before .before .before .mark .ensures .1)
+    ∙ marked-alone (s .args .limits) (s .args .t) (s .args .part .now) (s .pre) _ (alone (c .before .before .before .before .before)) (sym (answered (c .before)) ∙ c .if1 .left)
 
 pub shows-pattern-spec : {M : Type 1} → statement M
 shows-pattern-spec =
     tie.close
     (tie.spec
-    cast-t7
-    shl-t8
+    bit-requires
+    cast-t8
+    shl-t9
     slice-aggregate-mark
     mark-requires
     number-requires
