@@ -13,6 +13,7 @@ use Rattle.laws.proofs.Refusals.{passed, accepted}
 use Rattle.floats.specs.Finite.{allFinite}
 use Rattle.charts.specs.declared.Chart.{Chart}
 use Rattle.charts.specs.declared.Refusal.{Refusal}
+use Rattle.charts.specs.declared.Estimated.{Estimated}
 use Rattle.charts.specs.declared.limits.Measured.{Measured}
 use Rattle.charts.specs.declared.evaluate.Tested.{Tested}
 use Rattle.charts.specs.declared.evaluate.Tested.the-variants as testing
@@ -23,7 +24,7 @@ use Rattle.charts.specs.Records.{number, recordWrong}
 use Rattle.charts.specs.Series.{pointsIn}
 use Rattle.charts.specs.Limits.{measured}
 use Rattle.charts.specs.Evaluating.{tooFew, noRoom, storedIn, aheadOf7}
-use Rattle.charts.specs.Sigma.{sigmaNumber, unlessRefused}
+use Rattle.charts.specs.Sigma.{estimated, sigmaNumber, unlessRefused, sigmaHatOf, sigmaHatDfOf, estimateOf}
 use Rattle.charts.specs.Steps.{tested, surveyed, centreOf}
 use Rattle.charts.proofs.Answers.{number-some}
 use Rattle.charts.proofs.Held.{held}
@@ -102,6 +103,16 @@ module _ (n : ℕ) (v : Float) where
 
   pub number-done : (m : Float) → (0, m) ≡ unlessRefused n v → n ≡ 0
   number-done m e = was-done m e .0
+
+-- each of both
+module _ (c : Chart) (values : List Float) (e : Estimated) (found : estimated e ≡ estimateOf c values) where
+  pub its-hat : (estimated e .0, estimated e .1) ≡ sigmaHatOf c values
+  unfolding estimateOf sigmaHatOf unlessRefused
+  its-hat = ap (λ (p : ℕ × Float × Float). (p .0, p .1)) found
+
+  pub its-df : (estimated e .0, estimated e .2) ≡ sigmaHatDfOf c values
+  unfolding estimateOf sigmaHatDfOf unlessRefused
+  its-df = ap (λ (p : ℕ × Float × Float). (p .0, p .2)) found
 
 -- what a survey that found something tells
 pub surveyed-right : (c : Chart) (values : List Float) → sigmaNumber c values ≡ 0 → (recordWrong c (length values) ≡ false) × (1 ≤ c .count)

@@ -1,14 +1,17 @@
 -- The two series of a chart: series 0 is the main one, series 1 that of the dispersion (01, 'The charts'). Definitions only.
 use mathlib.Core.Bool.{cond}
-use mathlib.Core.List.{List}
+use mathlib.Core.List.{List, [], _∷_}
 use Prim.Native.Nat.{ℕ, _+_, _-_, _*_}
 use lib.Dec.{eqb}
 use lib.Ieee.{Float, nan}
 use lib.ListN.{getD, take, drop}
 use Rattle.laws.specs.Lists.{tabulate}
+use Rattle.laws.specs.Refusals.{firstOf}
 use Rattle.charts.specs.declared.Chart.{Chart}
+use Rattle.charts.specs.declared.Lengths.{Lengths}
+use Rattle.charts.specs.declared.Lengths.the-variants.{Done, Refused}
 use Rattle.charts.specs.Arith.{meanOf, rangeOf, deviationOf, movingOf}
-use Rattle.charts.specs.Records.{byKind}
+use Rattle.charts.specs.Records.{number, byKind, ownWrong}
 
 -- one thing for each series
 unfoldable pub bySeries : {A : Type 0} → ℕ → A → A → A
@@ -41,6 +44,15 @@ pointAt c s values i =
 -- "A moving range series has one point fewer than the main one."
 unfoldable pub pointsIn : Chart → ℕ → ℕ
 pointsIn c s = byKind (c .kind) (bySeries s (c .count) (c .count - 1)) (c .count) (c .count)
+
+-- the number of each answer, and how many points the main and the dispersion series have; a refusal's are zero
+abbrev pub lengths : Lengths → ℕ × ℕ × ℕ
+lengths (Done main dispersion) = (0, main, dispersion)
+lengths (Refused why) = (number why, 0, 0)
+
+-- 14 "with no slice": by the record's own numbers
+unfoldable pub pointsOf : Chart → ℕ × ℕ × ℕ
+pointsOf c = firstOf ((ownWrong c, (14, 0, 0)) ∷ []) (0, pointsIn c 0, pointsIn c 1)
 
 unfoldable pub seriesOf : Chart → ℕ → List Float → List Float
 seriesOf c s values = tabulate (pointAt c s values) (pointsIn c s)

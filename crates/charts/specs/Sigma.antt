@@ -11,6 +11,8 @@ use Rattle.floats.specs.Finite.{allFinite}
 use Rattle.charts.specs.declared.Chart.{Chart}
 use Rattle.charts.specs.declared.Figure.{Figure}
 use Rattle.charts.specs.declared.Figure.the-variants.{Done, Refused}
+use Rattle.charts.specs.declared.Estimated.{Estimated}
+use Rattle.charts.specs.declared.Estimated.the-variants as estimating
 use Rattle.charts.specs.Arith.{plusZero, whole}
 use Rattle.charts.specs.Factors.{decimal, factorOf, D4, D2, C4}
 use Rattle.charts.specs.Records.{number, byKind, recordWrong}
@@ -21,6 +23,10 @@ use Rattle.charts.specs.Evaluating.{tooFew, storedIn}
 abbrev pub figured : Figure → ℕ × Float
 figured (Done v) = (0, v)
 figured (Refused why) = (number why, plusZero)
+
+abbrev pub estimated : Estimated → ℕ × Float × Float
+estimated (estimating.Done e) = (0, e .«sigma_hat», e .«sigma_hat_df»)
+estimated (estimating.Refused why) = (number why, plusZero, plusZero)
 
 unfoldable pub sigmaNumber : Chart → List Float → ℕ
 sigmaNumber c values =
@@ -79,3 +85,8 @@ dfOf c =
 
 unfoldable pub sigmaHatDfOf : Chart → List Float → ℕ × Float
 sigmaHatDfOf c values = unlessRefused (sigmaNumber c values) (dfOf c)
+
+-- ---- both: the number that they share, and their values
+
+unfoldable pub estimateOf : Chart → List Float → ℕ × Float × Float
+estimateOf c values = (sigmaNumber c values, sigmaHatOf c values .1, sigmaHatDfOf c values .1)

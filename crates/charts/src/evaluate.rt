@@ -2,6 +2,7 @@
 use super::Chart;
 use super::Evaluated;
 use super::Evaluation;
+use super::INDIVIDUALS;
 use super::Refusal;
 use super::lent;
 use super::limits;
@@ -33,7 +34,7 @@ pub enum Tested {
 fn too_few(c: Chart) -> bool
     ensures { λ r. ⌜ r ≡ tooFew c ⌝ }
 {
-    if c.kind == 1 {
+    if c.kind == INDIVIDUALS {
         return c.count < 2;
     }
     c.count < 1

@@ -15,9 +15,18 @@ ghost use mathlib.Core.Path.{_≡_};
 ghost use lib.ListN.{length};
 ghost use Rattle.charts.specs.Arith.{plusZero};
 ghost use Rattle.charts.specs.Records.{number, changed, noChart, newOf, withSetOf, addOf, valuesAfter};
-ghost use Rattle.charts.specs.Series.{seriesOf};
+ghost use Rattle.charts.specs.Series.{seriesOf, lengths, pointsOf};
 ghost use Rattle.charts.specs.Evaluating.{evaluated, evaluateOf, seriesMarks, lentAfter};
-ghost use Rattle.charts.specs.Sigma.{figured, sigmaHatOf, sigmaHatDfOf};
+ghost use Rattle.charts.specs.Sigma.{figured, estimated, sigmaHatOf, sigmaHatDfOf, estimateOf};
+
+/// The kind of a chart of individuals and moving ranges.
+pub const INDIVIDUALS: u64 = 1;
+
+/// The kind of a chart of means and ranges.
+pub const X_BAR_R: u64 = 2;
+
+/// The kind of a chart of means and deviations.
+pub const X_BAR_S: u64 = 3;
 
 /// A chart: what it is, and how many samples it holds. The values stand in a slice that the caller lends to each call,
 /// one sample after the other from the front.
@@ -26,7 +35,7 @@ ghost use Rattle.charts.specs.Sigma.{figured, sigmaHatOf, sigmaHatDfOf};
 /// not one of the kind (1 for kind 1, 2 to 25 for kinds 2 and 3), its count is over 4,096, its set is over 511, or, where
 /// values are lent, count times size is over their length.
 pub struct Chart {
-    /// 1 for individuals and moving ranges, 2 for X-bar and R, 3 for X-bar and S.
+    /// [`INDIVIDUALS`] (1), [`X_BAR_R`] (2) or [`X_BAR_S`] (3).
     pub kind: u64,
     /// How many values a sample has.
     pub size: usize,
@@ -66,6 +75,14 @@ pub enum Changed {
     Refused(Refusal),
 }
 
+/// What [`Chart::points`] answers.
+pub enum Lengths {
+    /// How many points the main and the dispersion series have (0).
+    Done { main: usize, dispersion: usize },
+    /// There are no series.
+    Refused(Refusal),
+}
+
 /// What evaluating finds.
 pub struct Evaluation {
     /// The limits of the main series.
@@ -80,6 +97,22 @@ pub struct Evaluation {
 pub enum Evaluated {
     /// The limits and the number of marks (0).
     Done(Evaluation),
+    /// There are none.
+    Refused(Refusal),
+}
+
+/// The sigma figures.
+pub struct Estimate {
+    /// That of [`Chart::sigma_hat`].
+    pub sigma_hat: f64,
+    /// That of [`Chart::sigma_hat_df`].
+    pub sigma_hat_df: f64,
+}
+
+/// What [`Chart::estimate`] answers.
+pub enum Estimated {
+    /// Both figures (0).
+    Done(Estimate),
     /// There are none.
     Refused(Refusal),
 }
@@ -113,7 +146,78 @@ impl Refusal {
     }
 }
 
+impl Changed {
+    /// 01's number of the answer.
+    ///
+    /// `Chart::new(2, 1).number()` is 1.
+    pub fn number(self) -> u8
+        ensures { λ r. ⌜ r ≡ changed noChart self .0 ⌝ }
+    {
+        match self {
+            Changed::Done(_) => 0,
+            Changed::Refused(why) => why.number(),
+        }
+    }
+}
+
+impl Lengths {
+    /// 01's number of the answer.
+    ///
+    /// `Lengths::Done { main: 3, dispersion: 2 }.number()` is 0.
+    pub fn number(self) -> u8
+        ensures { λ r. ⌜ r ≡ lengths self .0 ⌝ }
+    {
+        match self {
+            Lengths::Done {
+                main: _,
+                dispersion: _,
+            } => 0,
+            Lengths::Refused(why) => why.number(),
+        }
+    }
+}
+
+impl Estimated {
+    /// 01's number of the answer.
+    ///
+    /// `Estimated::Refused(Refusal::Record).number()` is 14.
+    pub fn number(self) -> u8
+        ensures { λ r. ⌜ r ≡ estimated self .0 ⌝ }
+    {
+        match self {
+            Estimated::Done(_) => 0,
+            Estimated::Refused(why) => why.number(),
+        }
+    }
+}
+
+impl Figure {
+    /// 01's number of the answer.
+    ///
+    /// `Figure::Done(0.5).number()` is 0.
+    pub fn number(self) -> u8
+        ensures { λ r. ⌜ r ≡ figured self .0 ⌝ }
+    {
+        match self {
+            Figure::Done(_) => 0,
+            Figure::Refused(why) => why.number(),
+        }
+    }
+}
+
 impl Evaluated {
+    /// 01's number of the answer.
+    ///
+    /// `Evaluated::Refused(Refusal::TooFew).number()` is 8.
+    pub fn number(self) -> u8
+        ensures { λ r. ⌜ r ≡ evaluated self .number ⌝ }
+    {
+        match self {
+            Evaluated::Done(_) => 0,
+            Evaluated::Refused(why) => why.number(),
+        }
+    }
+
     /// Whether no mark stands, in either series. A refusal says so where there is too little to evaluate (8), and no other
     /// refusal does.
     ///
@@ -217,6 +321,29 @@ impl Chart {
         })
     }
 
+    /// How many points each series has, and so how long the slices have to be that evaluating is lent.
+    ///
+    /// Gives `Done` with both numbers. Refuses a record that is no chart, by its own numbers (14, `Record`).
+    ///
+    /// Of a chart of kind 1 with three observations it is `Lengths::Done { main: 3, dispersion: 2 }`.
+    pub fn points(self) -> Lengths
+        ensures { λ r. ⌜ lengths r ≡ pointsOf self ⌝ }
+    {
+        if records::own_wrong(self) {
+            return Lengths::Refused(Refusal::Record);
+        }
+        if self.count == 0 {
+            return Lengths::Done {
+                main: 0,
+                dispersion: 0,
+            };
+        }
+        Lengths::Done {
+            main: series::points_in(self, 0),
+            dispersion: series::points_in(self, 1),
+        }
+    }
+
     /// Evaluates the chart: writes the two series and the marks of their points to the front of the lent slices, main
     /// series first, and gives their limits and the number of marks. The dispersion series has the moving ranges (one
     /// point fewer than the main one), ranges or deviations. Entries past the last one written are untouched.
@@ -263,6 +390,23 @@ impl Chart {
         }
     }
 
+    /// Both sigma figures, the values being measured once.
+    ///
+    /// Gives `Done` with [`Chart::sigma_hat`]'s and [`Chart::sigma_hat_df`]'s figure. Refuses as they do.
+    ///
+    /// Of three observations of 0.1 they are 0.0 and 1.24.
+    pub fn estimate(self, values: &[f64]) -> Estimated
+        ensures { λ r. ⌜ estimated r ≡ estimateOf self (now (values .entry)) ⌝ }
+    {
+        match sigma::survey(self, values) {
+            sigma::Surveyed::Refused(why) => Estimated::Refused(why),
+            sigma::Surveyed::Centre(mean) => Estimated::Done(Estimate {
+                sigma_hat: sigma::sigma_from(self, mean),
+                sigma_hat_df: sigma::df_of(self),
+            }),
+        }
+    }
+
     /// The estimate of sigma: the dispersion series' centre line, divided by D2 (moving ranges by that of 2, ranges by that
     /// of the size) or by C4 (deviations).
     ///
@@ -274,9 +418,9 @@ impl Chart {
     pub fn sigma_hat(self, values: &[f64]) -> Figure
         ensures { λ r. ⌜ figured r ≡ sigmaHatOf self (now (values .entry)) ⌝ }
     {
-        match sigma::survey(self, values) {
-            sigma::Surveyed::Refused(why) => Figure::Refused(why),
-            sigma::Surveyed::Centre(mean) => Figure::Done(sigma::sigma_from(self, mean)),
+        match self.estimate(values) {
+            Estimated::Refused(why) => Figure::Refused(why),
+            Estimated::Done(both) => Figure::Done(both.sigma_hat),
         }
     }
 
@@ -289,9 +433,9 @@ impl Chart {
     pub fn sigma_hat_df(self, values: &[f64]) -> Figure
         ensures { λ r. ⌜ figured r ≡ sigmaHatDfOf self (now (values .entry)) ⌝ }
     {
-        match sigma::survey(self, values) {
-            sigma::Surveyed::Refused(why) => Figure::Refused(why),
-            sigma::Surveyed::Centre(_) => Figure::Done(sigma::df_of(self)),
+        match self.estimate(values) {
+            Estimated::Refused(why) => Figure::Refused(why),
+            Estimated::Done(both) => Figure::Done(both.sigma_hat_df),
         }
     }
 }

@@ -1,5 +1,7 @@
 // The limits of both series.
 use super::Chart;
+use super::INDIVIDUALS;
+use super::X_BAR_R;
 use super::arith;
 use super::factors;
 use rules::Limits;
@@ -21,10 +23,10 @@ pub fn factor_for(c: Chart, individuals: f64, ranges: usize, deviations: usize) 
     requires { ⌜ (ownWrong c ≡ false) × (ranges < 8) × (deviations < 8) ⌝ }
     ensures { λ r. ⌜ r ≡ factorFor c individuals ranges deviations ⌝ }
 {
-    if c.kind == 1 {
+    if c.kind == INDIVIDUALS {
         return individuals;
     }
-    if c.kind == 2 {
+    if c.kind == X_BAR_R {
         return factors::factor(ranges, c.size);
     }
     factors::factor(deviations, c.size)
@@ -46,7 +48,7 @@ fn lower_limit(c: Chart, d: f64) -> f64
     requires { ⌜ ownWrong c ≡ false ⌝ }
     ensures { λ r. ⌜ r ≡ lowerLimit c d ⌝ }
 {
-    if c.kind == 1 {
+    if c.kind == INDIVIDUALS {
         return 0.0;
     }
     factor_for(c, 0.0, factors::D3, factors::B3) * d

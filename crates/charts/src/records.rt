@@ -1,5 +1,7 @@
 // What is wrong with a record.
 use super::Chart;
+use super::INDIVIDUALS;
+use super::X_BAR_S;
 use sets::RuleSet;
 ghost use mathlib.Core.Path.{_≡_};
 ghost use Rattle.charts.specs.Records.{kindWrong, sizeWrong, ownWrong, recordWrong};
@@ -7,13 +9,13 @@ ghost use Rattle.charts.specs.Records.{kindWrong, sizeWrong, ownWrong, r
 pub fn kind_wrong(kind: u64) -> bool
     ensures { λ r. ⌜ r ≡ kindWrong kind ⌝ }
 {
-    (kind < 1) | (3 < kind)
+    (kind < INDIVIDUALS) | (X_BAR_S < kind)
 }
 
 pub fn size_wrong(kind: u64, size: usize) -> bool
     ensures { λ r. ⌜ r ≡ sizeWrong kind size ⌝ }
 {
-    if kind == 1 {
+    if kind == INDIVIDUALS {
         return size != 1;
     }
     (size < 2) | (25 < size)

@@ -1,5 +1,7 @@
 // The two series: 0 is the main one, 1 that of the dispersion.
 use super::Chart;
+use super::INDIVIDUALS;
+use super::X_BAR_R;
 use super::arith;
 ghost use mathlib.Core.Path.{_≡_};
 ghost use mathlib.Core.Bool.{false};
@@ -14,7 +16,7 @@ pub fn points_in(c: Chart, series: u8) -> usize
     requires { ⌜ 1 ≤ c .count ⌝ }
     ensures { λ r. ⌜ r ≡ pointsIn c series ⌝ }
 {
-    if c.kind != 1 {
+    if c.kind != INDIVIDUALS {
         return c.count;
     }
     if series == 0 {
@@ -62,13 +64,13 @@ fn point(c: Chart, series: u8, values: &[f64], i: usize) -> f64
     requires { ⌜ (recordWrong c (length (now values)) ≡ false) × (series ≤ 1) × (i < pointsIn c series) ⌝ }
     ensures { λ r. ⌜ r ≡ pointAt c series (now (values .entry)) i ⌝ }
 {
-    if c.kind == 1 {
+    if c.kind == INDIVIDUALS {
         return individual(series, values, i);
     }
     let at = i * c.size;
     let end = at + c.size;
     let sample = &values[at..end];
-    if c.kind == 2 {
+    if c.kind == X_BAR_R {
         return range_point(series, sample);
     }
     deviation_point(series, sample)

@@ -1,6 +1,8 @@
 // The sigma figures.
 use super::Chart;
+use super::INDIVIDUALS;
 use super::Refusal;
+use super::X_BAR_R;
 use super::evaluate;
 use super::factors;
 use super::limits;
@@ -83,12 +85,12 @@ pub fn df_of(c: Chart) -> f64
     requires { ⌜ (ownWrong c ≡ false) × (1 ≤ c .count) ⌝ }
     ensures { λ r. ⌜ r ≡ dfOf c ⌝ }
 {
-    if c.kind == 1 {
+    if c.kind == INDIVIDUALS {
         let n = c.count - 1;
         return 0.62 * std::num::nearest_u64_to_f64(n as u64);
     }
     let m = std::num::nearest_u64_to_f64(c.count as u64);
-    if c.kind == 2 {
+    if c.kind == X_BAR_R {
         return equivalent_df(range_cv2(factors::factor(factors::D4, c.size), m));
     }
     equivalent_df(deviation_cv2(factors::factor(factors::C4, c.size), m))

@@ -11,9 +11,19 @@ use Rattle.charts.specs.Records.{noChart, valuesAfter}
 use Rattle.charts.specs.Arith.{plusZero}
 use Rattle.charts.specs.Series.{seriesOf}
 use Rattle.charts.specs.Evaluating.{Answer, seriesMarks, lentAfter}
-use Rattle.charts.proofs.Answers.{changed-one, evaluated-one, figured-one}
+use Rattle.charts.proofs.Answers.{changed-one, lengths-one, evaluated-one, estimated-one, figured-one}
 use Rattle.charts.proofs.Refusal.number.Reads as number
 use Rattle.charts.proofs.Refusal.number.Kinds as number-kinds
+use Rattle.charts.proofs.Changed.number.Reads as changed-number
+use Rattle.charts.proofs.Changed.number.Kinds as changed-number-kinds
+use Rattle.charts.proofs.Lengths.number.Reads as lengths-number
+use Rattle.charts.proofs.Lengths.number.Kinds as lengths-number-kinds
+use Rattle.charts.proofs.Evaluated.number.Reads as evaluated-number
+use Rattle.charts.proofs.Evaluated.number.Kinds as evaluated-number-kinds
+use Rattle.charts.proofs.Estimated.number.Reads as estimated-number
+use Rattle.charts.proofs.Estimated.number.Kinds as estimated-number-kinds
+use Rattle.charts.proofs.Figure.number.Reads as figure-number
+use Rattle.charts.proofs.Figure.number.Kinds as figure-number-kinds
 use Rattle.charts.proofs.Evaluated.none_stands.Reads as none-stands
 use Rattle.charts.proofs.Evaluated.none_stands.Kinds as none-stands-kinds
 use Rattle.charts.proofs.Chart.new.Reads as new
@@ -24,6 +34,10 @@ use Rattle.charts.proofs.Chart.add.Reads as add
 use Rattle.charts.proofs.Chart.add.Kinds as add-kinds
 use Rattle.charts.proofs.Chart.evaluate.Reads as evaluate
 use Rattle.charts.proofs.Chart.evaluate.Kinds as evaluate-kinds
+use Rattle.charts.proofs.Chart.points.Reads as points
+use Rattle.charts.proofs.Chart.points.Kinds as points-kinds
+use Rattle.charts.proofs.Chart.estimate.Reads as estimate
+use Rattle.charts.proofs.Chart.estimate.Kinds as estimate-kinds
 use Rattle.charts.proofs.Chart.sigma_hat.Reads as sigma-hat
 use Rattle.charts.proofs.Chart.sigma_hat.Kinds as sigma-hat-kinds
 use Rattle.charts.proofs.Chart.sigma_hat_df.Reads as sigma-hat-df
@@ -32,6 +46,21 @@ use Rattle.promises.proofs.Coincide.{Coincide}
 
 refusal-number-one : Coincide 0 number-kinds.ps number-kinds.r number.Post (λ κs x s. x)
 refusal-number-one κs a x y s t p q = p ∙ sym q
+
+changed-number-one : Coincide 0 changed-number-kinds.ps changed-number-kinds.r changed-number.Post (λ κs x s. x)
+changed-number-one κs a x y s t p q = p ∙ sym q
+
+lengths-number-one : Coincide 0 lengths-number-kinds.ps lengths-number-kinds.r lengths-number.Post (λ κs x s. x)
+lengths-number-one κs a x y s t p q = p ∙ sym q
+
+evaluated-number-one : Coincide 0 evaluated-number-kinds.ps evaluated-number-kinds.r evaluated-number.Post (λ κs x s. x)
+evaluated-number-one κs a x y s t p q = p ∙ sym q
+
+estimated-number-one : Coincide 0 estimated-number-kinds.ps estimated-number-kinds.r estimated-number.Post (λ κs x s. x)
+estimated-number-one κs a x y s t p q = p ∙ sym q
+
+figure-number-one : Coincide 0 figure-number-kinds.ps figure-number-kinds.r figure-number.Post (λ κs x s. x)
+figure-number-one κs a x y s t p q = p ∙ sym q
 
 none-stands-one : Coincide 0 none-stands-kinds.ps none-stands-kinds.r none-stands.Post (λ κs x s. x)
 none-stands-one κs a x y s t p q = p ∙ sym q
@@ -72,6 +101,12 @@ evaluate-one κs a x y s t p q =
     let mainMarks = p .1 .1 .1 .0 ∙ ap (λ (n : ℕ). lentAfter n 0 (seriesMarks (a .0) 0 values) (a .1 .1 .1 .1 .0 .now)) number ∙ sym (q .1 .1 .1 .0) in
     let dispersionMarks = p .1 .1 .1 .1 ∙ ap (λ (n : ℕ). lentAfter n 0 (seriesMarks (a .0) 1 values) (a .1 .1 .1 .1 .1 .0 .now)) number ∙ sym (q .1 .1 .1 .1) in
     cc (answer, main, dispersion, mainMarks, dispersionMarks)
+
+points-one : Coincide 0 points-kinds.ps points-kinds.r points.Post (λ κs x s. x)
+points-one κs a x y s t p q = lengths-one x y (p ∙ sym q)
+
+estimate-one : Coincide 1 estimate-kinds.ps estimate-kinds.r estimate.Post (λ κs x s. x)
+estimate-one κs a x y s t p q = estimated-one x y (p ∙ sym q)
 
 sigma-hat-one : Coincide 1 sigma-hat-kinds.ps sigma-hat-kinds.r sigma-hat.Post (λ κs x s. x)
 sigma-hat-one κs a x y s t p q = figured-one x y (p ∙ sym q)

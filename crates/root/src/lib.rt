@@ -12,6 +12,20 @@ pub enum Rooted {
     Refused,
 }
 
+impl Rooted {
+    /// 01's number of the answer.
+    ///
+    /// `root::root(-1.0).number()` is 3.
+    pub fn number(self) -> u8
+        ensures { λ r. ⌜ r ≡ numbered self .0 ⌝ }
+    {
+        match self {
+            Rooted::Root(_) => 0,
+            Rooted::Refused => 3,
+        }
+    }
+}
+
 // The bits of +infinity: those of every finite number with a clear sign bit are below them.
 const INFINITY: u64 = 0x7ff0_0000_0000_0000;
 
