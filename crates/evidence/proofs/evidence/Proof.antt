@@ -1,5 +1,6 @@
 -- `evidence::evidence` meets its contract: each return is the part that the definition names. Assumes nothing.
 use mathlib.Core.Path.{refl, sym, ap, _∙_}
+use Prim.Native.Nat.{_≤_}
 use native.Mathlib.Omega.{arith}
 use Rattle.evidence.specs.declared.Span.{Span}
 use Rattle.evidence.proofs.Spans.{main-part, second-part, second-none, no-series}
@@ -23,7 +24,11 @@ part-result-end : tie.Need-part-result-end
 part-result-end c = search needs
 
 returns : tie.Need-returns
-returns c = rw (main-part (c .before .before .before .before .before .args .main .now) (c .before .before .before .before .before .args .dispersion .now) (c .before .before .before .before .before .args .series) (c .before .before .before .before .before .args .limits) (c .before .before .before .before .before .args .at) (c .before .before .before .before .before .args .bit) (c .before .before .if1 .taken), ← c .before .span-at .ensures .0) (record { block = refl; place = search needs; values = search needs })
+returns c =
+    let args = c .before .before .before .before .before .args in
+    let part = main-part (args .main .now) (args .dispersion .now) (args .series) (args .limits) (args .at) (args .bit) (c .before .before .if1 .taken) in
+    rw (part, ← c .before .span-at .ensures .0)
+    (record { block = refl; place = search needs; values = search needs })
 
 span-at-requires-2 : tie.Need-span-at-requires-2
 span-at-requires-2 c κs = search needs
@@ -38,7 +43,12 @@ part-result-end-2 : tie.Need-part-result-end-2
 part-result-end-2 c = search needs
 
 returns-2 : tie.Need-returns-2
-returns-2 c = rw (second-none (c .before .before .before .before .before .before .before .args .main .now) (c .before .before .before .before .before .before .before .args .dispersion .now) (c .before .before .before .before .before .before .before .args .series) (c .before .before .before .before .before .before .before .args .limits) (c .before .before .before .before .before .before .before .args .at) (c .before .before .before .before .before .before .before .args .bit) (c .before .before .before .if2 .taken) (ap (λ (s : Span). s .end) (sym (c .before .before .span-at2 .ensures .0)) ∙ c .before .if3 .taken)) (record { block = refl; place = search needs; values = search needs })
+returns-2 c =
+    let args = c .before .before .before .before .before .before .before .args in
+    let span = c .before .before .span-at2 .ensures .0 in
+    let ends = ap (λ (s : Span). s .end) (sym span) ∙ c .before .if3 .taken in
+    rw (second-none (args .main .now) (args .dispersion .now) (args .series) (args .limits) (args .at) (args .bit) (c .before .before .before .if2 .taken) ends)
+    (record { block = refl; place = search needs; values = search needs })
 
 mul-result-2 : tie.Need-mul-result-2
 mul-result-2 c = search needs
@@ -54,7 +64,11 @@ part-result-end-3 c = search needs
 
 returns-3 : tie.Need-returns-3
 returns-3 c =
-    rw (second-part (c .before .before .before .before .before .before .before .args .main .now) (c .before .before .before .before .before .before .before .args .dispersion .now) (c .before .before .before .before .before .before .before .args .series) (c .before .before .before .before .before .before .before .args .limits) (c .before .before .before .before .before .before .before .args .at) (c .before .before .before .before .before .before .before .args .bit) (c .before .before .before .if2 .taken) (λ e. c .before .if3 .left (ap (λ (s : Span). s .end) (c .before .before .span-at2 .ensures .0) ∙ e)), ← c .before .before .span-at2 .ensures .0)
+    let args = c .before .before .before .before .before .before .before .args in
+    let span = c .before .before .span-at2 .ensures .0 in
+    let part = second-part (args .main .now) (args .dispersion .now) (args .series) (args .limits) (args .at) (args .bit) (c .before .before .before .if2 .taken)
+    (λ e. c .before .if3 .left (ap (λ (s : Span). s .end) span ∙ e)) in
+    rw (part, ← span)
     (record { block = refl; place = search needs; values = search needs })
 
 sub-result-4 : tie.Need-sub-result-4
@@ -67,7 +81,11 @@ part-result-end-4 : tie.Need-part-result-end-4
 part-result-end-4 c = search needs
 
 returns-4 : tie.Need-returns-4
-returns-4 c = rw (no-series (c .before .before .before .before .before .args .main .now) (c .before .before .before .before .before .args .dispersion .now) (c .before .before .before .before .before .args .series) (c .before .before .before .before .before .args .limits) (c .before .before .before .before .before .args .at) (c .before .before .before .before .before .args .bit) (omega (arith, c .before .before .if1 .left, c .before .if2 .left))) (record { block = refl; place = search needs; values = search needs })
+returns-4 c =
+    let args = c .before .before .before .before .before .args in
+    let neither : 2 ≤ args .series = omega (arith, c .before .before .if1 .left, c .before .if2 .left) in
+    rw (no-series (args .main .now) (args .dispersion .now) (args .series) (args .limits) (args .at) (args .bit) neither)
+    (record { block = refl; place = search needs; values = search needs })
 
 pub evidence-spec : {M : Type 1} → statement M
 evidence-spec =

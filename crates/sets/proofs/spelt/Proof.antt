@@ -10,7 +10,8 @@ same-requires c κs = search needs
 
 returns : tie.Need-returns
 returns c =
-    sym (compared (c .before .before .before .args .name .now) (c .before .before .before .args .word .now) (c .same .result) (c .same .ensures))
+    let args = c .before .before .before .args in
+    sym (compared (args .name .now) (args .word .now) (c .same .result) (c .same .ensures))
 
 pub spelt-spec : {M : Type 1} → statement M
 spelt-spec = tie.close (tie.spec same-requires returns)

@@ -1,10 +1,29 @@
 -- `RuleSet::named` meets its contract: the name is compared with each of the three. Assumes nothing.
-use mathlib.Core.Path.{sym, ap, _∙_}
+use mathlib.Core.Path.{_≡_, sym, ap, _∙_}
+use mathlib.Core.Bool.{false}
+use mathlib.Core.List.{List}
 use Prim.Native.Nat.{ℕ}
 use borrow.Author.Needs.{needs}
+use Rattle.sets.specs.Calls.{same, shewhart, nelson}
 use Rattle.sets.proofs.Names.{first-named, second-named, third-named, none-named}
 use Rattle.sets.proofs.RuleSet.named.Statement.{statement}
 use Rattle.sets.proofs.RuleSet.named.Tie as tie
+
+-- ---- the name, and the spellings that it is not
+
+abbrev name : tie.Else1 → List ℕ
+name c = c .before .before .before .before .args .name .now
+
+not-shewhart : (c : tie.Else1) → same (name c) shewhart ≡ false
+not-shewhart c = sym (c .before .spelt .ensures) ∙ c .if1 .left
+
+abbrev past-shewhart : tie.Else2 → tie.Else1
+past-shewhart c = c .before .before .before
+
+not-nelson : (c : tie.Else2) → same (name (past-shewhart c)) nelson ≡ false
+not-nelson c = sym (c .before .spelt2 .ensures) ∙ c .if2 .left
+
+-- ---- the needs
 
 slice-aggregate-spelt : tie.Need-slice-aggregate-spelt
 slice-aggregate-spelt c = search needs
@@ -29,9 +48,9 @@ nelson-requires c κs = search needs
 
 returns-2 : tie.Need-returns-2
 returns-2 c =
-    ap (λ (m : ℕ). (0, m)) (c .nelson .ensures) ∙ sym (second-named _
-    (sym (c .before .before .before .before .before .spelt .ensures) ∙ c .before .before .before .before .if1 .left)
-    (sym (c .before .before .spelt2 .ensures) ∙ c .before .if2 .taken))
+    let past = c .before .before .before .before in
+    ap (λ (m : ℕ). (0, m)) (c .nelson .ensures)
+    ∙ sym (second-named _ (not-shewhart past) (sym (c .before .before .spelt2 .ensures) ∙ c .before .if2 .taken))
 
 slice-aggregate-spelt-3 : tie.Need-slice-aggregate-spelt-3
 slice-aggregate-spelt-3 c = search needs
@@ -44,19 +63,14 @@ western-electric-requires c κs = search needs
 
 returns-3 : tie.Need-returns-3
 returns-3 c =
-    ap (λ (m : ℕ). (0, m)) (c .western-electric .ensures) ∙ sym (third-named _
-    (sym (c .before .before .before .before .before .before .before .before .spelt .ensures)
-    ∙ c .before .before .before .before .before .before .before .if1 .left)
-    (sym (c .before .before .before .before .before .spelt2 .ensures) ∙ c .before .before .before .before .if2 .left)
-    (sym (c .before .before .spelt3 .ensures) ∙ c .before .if3 .taken))
+    let past = c .before .before .before .before in
+    ap (λ (m : ℕ). (0, m)) (c .western-electric .ensures)
+    ∙ sym (third-named _ (not-shewhart (past-shewhart past)) (not-nelson past) (sym (c .before .before .spelt3 .ensures) ∙ c .before .if3 .taken))
 
 returns-4 : tie.Need-returns-4
 returns-4 c =
-    sym (none-named _
-    (sym (c .before .before .before .before .before .before .before .spelt .ensures)
-    ∙ c .before .before .before .before .before .before .if1 .left)
-    (sym (c .before .before .before .before .spelt2 .ensures) ∙ c .before .before .before .if2 .left)
-    (sym (c .before .spelt3 .ensures) ∙ c .if3 .left))
+    let past = c .before .before .before in
+    sym (none-named _ (not-shewhart (past-shewhart past)) (not-nelson past) (sym (c .before .spelt3 .ensures) ∙ c .if3 .left))
 
 pub named-spec : {M : Type 1} → statement M
 named-spec =

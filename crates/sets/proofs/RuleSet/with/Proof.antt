@@ -16,7 +16,8 @@ mask-of-requires c κs = search needs
 
 returns-2 : tie.Need-returns-2
 returns-2 c =
-    with-is (c .before .before .args .self .mask) (c .before .before .args .t) (c .mask-of .result) (c .mask-of .ensures) (c .before .if1 .left)
+    let args = c .before .before .args in
+    with-is (args .self .mask) (args .t) (c .mask-of .result) (c .mask-of .ensures) (c .before .if1 .left)
 
 pub with-spec : {M : Type 1} → statement M
 with-spec = tie.close (tie.spec returns mask-of-requires returns-2)
