@@ -22,7 +22,7 @@ use Rattle.charts.specs.declared.Chart.{Chart}
 use Rattle.charts.specs.Arith.{meanOf, rangeOf, orNan, deviationOf, signCleared, movingOf}
 use Rattle.charts.specs.Factors.{decimal, factorOf}
 use Rattle.charts.specs.Records.{byKind, sizeWrong, ownWrong, recordWrong}
-use Rattle.charts.specs.Series.{bySeries, individualAt, rangePoint, deviationPoint, pointAt, pointsIn, seriesOf}
+use Rattle.charts.specs.Series.{bySeries, individualAt, rangePoint, deviationPoint, pointAt, pointsIn, pointsOf, seriesOf}
 use Rattle.charts.specs.Limits.{factorFor, mainLimits, lowerLimit, dispersionLimits, limitsFrom, measuredOf, measured}
 use Rattle.charts.specs.Evaluating.{Answer, answerRefused, tooFew, noRoom, seriesMarks, numberOf, answerFor, evaluateOf}
 use Rattle.charts.specs.Sigma.{sigmaNumber, unlessRefused, sigmaFrom, sigmaHatOf, dfOf}
@@ -90,6 +90,11 @@ tenths-sigma = refl
 pub tenths-df : eqb (bits (dfOf (individuals 3))) (bits (decimal 2 124)) ≡ true
 unfolding dfOf byKind toBits ofInt round mul
 tenths-df = refl
+
+-- how many points there are: one moving range fewer than observations, and none of either before the first observation
+pub tenths-points : (pointsOf (individuals 3) ≡ (0, 3, 2)) × (pointsOf (individuals 0) ≡ (0, 0, 0))
+unfolding pointsOf firstOf ownWrong sizeWrong pointsIn byKind bySeries
+tenths-points = (refl, refl)
 
 -- ---- two subgroups with the means -2 and 2, as kind 2 and as kind 3, set shewhart
 
