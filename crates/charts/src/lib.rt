@@ -329,7 +329,8 @@ impl Chart {
     pub fn points(self) -> Lengths
         ensures { λ r. ⌜ lengths r ≡ pointsOf self ⌝ }
     {
-        if records::own_wrong(self) {
+        let wrong = records::own_wrong(self);
+        if wrong {
             return Lengths::Refused(Refusal::Record);
         }
         if self.count == 0 {
