@@ -14,6 +14,7 @@ const SHEWHART: u16 = 1;
 const NELSON: u16 = 255;
 const WESTERN_ELECTRIC: u16 = 305;
 const EIGHT_ONE_SIDE: u16 = 1 << 8;
+const ALL: u16 = 511;
 
 /// A floating-point mode that is not the default one: subnormals are flushed.
 const FLUSHING: mode::word::Word = if cfg!(target_arch = "x86_64") { 0x9fc0 } else { 1 << 24 };
@@ -26,6 +27,7 @@ fn main() {
     short_series(turns);
     marking_bytes(turns);
     sheets(turns);
+    evidence(turns);
     roots(turns);
     modes(turns);
     evaluating(turns);
@@ -203,6 +205,26 @@ fn sheets(turns: usize) {
         let (check, write) = (checking / marking, writing / marking);
         println!("{name:<36}{marking:>8.2}{checking:>16.2}{check:>8.2}{writing:>18.2}{write:>8.2}");
     }
+}
+
+/// The window behind each mark of a flow under all nine tests. The Rust has no such call.
+fn evidence(turns: usize) {
+    let flow = data::two_peaked();
+    let mut marks = vec![0; flow.len()];
+    ours::mark_values(&flow, ALL, &mut marks);
+    let pairs = (0..flow.len()).flat_map(|at| (0..9).map(move |bit| (at, bit)));
+    let marked: Vec<(usize, u64)> = pairs.filter(|&(at, bit)| marks[at] & (1 << bit) != 0).collect();
+    for &(at, bit) in &marked {
+        assert_ne!(ours::evidence(&flow, at, bit), 0, "no window behind the mark of test {bit} at {at}");
+    }
+    let [mine] = medians(
+        turns,
+        [&mut || marked.iter().for_each(|&(at, bit)| keep(ours::evidence(&flow, opaque(at), opaque(bit))))],
+    )
+    .map(|t| t / marked.len() as f64);
+    println!();
+    println!("{:<36}{:>8}", "evidence, ns a mark", "ours");
+    println!("{:<36}{mine:>8.0}", "all nine tests, two-peaked");
 }
 
 fn roots(turns: usize) {

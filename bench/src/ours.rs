@@ -44,6 +44,15 @@ extern "C" {
         marks: *mut u16,
         marks_len: usize,
     ) -> u64;
+    fn bench_evidence(
+        ucl: f64,
+        cl: f64,
+        lcl: f64,
+        values: *const f64,
+        values_len: usize,
+        at: usize,
+        bit: u64,
+    ) -> usize;
     fn bench_evaluate(
         kind: u64,
         size: usize,
@@ -68,6 +77,11 @@ extern "C" {
 pub fn mark_values(values: &[f64], set: u16, marks: &mut [u16]) -> u64 {
     let (to, room) = (marks.as_mut_ptr(), marks.len());
     unsafe { bench_mark(LIMITS.ucl, LIMITS.cl, LIMITS.lcl, set, values.as_ptr(), values.len(), to, room) }
+}
+
+/// How long the window behind a mark is, or 0 where there is none.
+pub fn evidence(values: &[f64], at: usize, bit: u64) -> usize {
+    unsafe { bench_evidence(LIMITS.ucl, LIMITS.cl, LIMITS.lcl, values.as_ptr(), values.len(), at, bit) }
 }
 
 pub fn mark(values: &[u8], set: u16, marks: &mut [u8]) -> u64 {

@@ -19,9 +19,10 @@ use Rattle.laws.proofs.FirstBits.{ones-fromBits}
 use Rattle.sets.specs.declared.Test.{Test}
 use Rattle.sets.specs.Sets.{tests, has, setOf}
 use Rattle.sets.proofs.Sets.{has-setOf}
-use Rattle.rules.specs.declared.Limits.{Limits}
+use Rattle.rules.specs.Terms.{Terms}
 use Rattle.rules.specs.Lines.{linesOf}
-use Rattle.rules.specs.Marking.{newestFirst, stands, marksAt, marksOf, answerOf, marksAfter}
+use Rattle.rules.specs.Marking.{newestFirst, stands, marksAt, marksOf, most, answerOf, marksAfter}
+use Rattle.rules.proofs.Accepted.{marks-front}
 use Rattle.charts.specs.Evaluating.{numberOf}
 use Rattle.charts.specs.Steps.{onesIn}
 
@@ -50,29 +51,20 @@ module _ (p : ℕ → Test → Bool) where
   ones-sets i zero = refl
   ones-sets i (suc n) = ap₂ _+_ (ones-set (p i)) (ones-sets (suc i) n)
 
-pub ones-marks : (limits : Limits) (set : ℕ) (values : List Float) → onesIn (marksOf limits set values) ≡ numberOf (marksOf limits set values)
+pub ones-marks : (terms : Terms) (set : ℕ) (values : List Float) → onesIn (marksOf terms set values) ≡ numberOf (marksOf terms set values)
 unfolding marksOf marksAt
-ones-marks limits set values = ones-sets (λ i t. has set t && stands (linesOf limits) (newestFirst values (suc i)) t) 0 (length values)
+ones-marks terms set values = ones-sets (λ i t. has set t && stands (linesOf (terms .limits)) (newestFirst values (suc i)) t) 0 (length values)
 
 -- ---- the marks at the front of their slice
 
-length-marks : (limits : Limits) (set : ℕ) (values : List Float) → length (marksOf limits set values) ≡ length values
-unfolding marksOf
-length-marks limits set values = length-tabulate (marksAt (linesOf limits) set values) (length values)
-
-pub front-few : (n : ℕ) (l : List ℕ) → n ≤ 4096 → length (take (n - 0) l) ≤ 4096
+pub front-few : (n : ℕ) (l : List ℕ) → n ≤ most → length (take (n - 0) l) ≤ most
 front-few n l h = omega (arith, length-take (n - 0) l)
 
-module _ (limits : Limits) (set : ℕ) (values : List Float) (old : List ℕ) (accepted : answerOf limits set values (length old) ≡ 0) where
-  pub marks-written : marksAfter limits set values old ≡ atFront (marksOf limits set values) old
-  unfolding marksAfter
-  marks-written =
-      ap (λ (b : Bool). cond b (atFront (marksOf limits set values) old) old) (eq-eqb (answerOf limits set values (length old)) 0 accepted)
-
-  pub marks-counted : {n : ℕ} {now : List ℕ} → now ≡ marksAfter limits set values old → n ≡ onesIn (take (length values - 0) now)
-      → n ≡ numberOf (marksOf limits set values)
-  marks-counted e f =
-      f
-      ∙ ap₂ (λ (k : ℕ) (l : List ℕ). onesIn (take k l)) (sub-zero (length values)) (e ∙ marks-written)
-      ∙ ap onesIn (take-at (marksOf limits set values) _ (length values) (length-marks limits set values))
-      ∙ ones-marks limits set values
+pub marks-counted : (terms : Terms) (set : ℕ) (values : List Float) (old : List ℕ) → answerOf terms set values (length old) ≡ 0
+    → {n : ℕ} {now : List ℕ} → now ≡ marksAfter terms set values old → n ≡ onesIn (take (length values - 0) now)
+    → n ≡ numberOf (marksOf terms set values)
+marks-counted terms set values old accepted e f =
+    f
+    ∙ ap₂ (λ (k : ℕ) (l : List ℕ). onesIn (take k l)) (sub-zero (length values)) e
+    ∙ ap onesIn (marks-front terms set values old accepted)
+    ∙ ones-marks terms set values

@@ -21,7 +21,8 @@ use Rattle.rules.specs.declared.Limits.{Limits}
 use Rattle.floats.specs.Finite.{allFinite}
 use Rattle.rules.specs.Finite.{finiteLimits}
 use Rattle.rules.specs.Marking.{marksOf, answerOf}
-use Rattle.rules.proofs.Accepted.{accepts}
+use Rattle.rules.specs.Terms.{under}
+use Rattle.rules.proofs.Accepted as marking
 use Rattle.charts.specs.declared.Chart.{Chart}
 use Rattle.charts.specs.declared.Refusal.{Refusal}
 use Rattle.charts.specs.declared.limits.Measured.{Measured}
@@ -195,40 +196,42 @@ module _ (c : Chart) (values : List Float) {a b x y : ℕ} (h : Ahead c values a
   sound = sound-parts c values (sym (ap (λ (v : Measured). v .sound) e) ∙ not-false (w .sound) ok)
 
   -- marking refuses neither series
-  pub main-accepted : {points : List Float} → points ≡ seriesOf c 0 values → answerOf (w .main) (c .set .mask) points x ≡ 0
+  pub main-accepted : {points : List Float} → points ≡ seriesOf c 0 values → answerOf (under (w .main)) (c .set .mask) points x ≡ 0
   main-accepted f =
-      ap₂ (λ (l : Limits) (s : List Float). answerOf l (c .set .mask) s x) (ap (λ (v : Measured). v .main) e) f
-      ∙ accepts (measured c values .main) (c .set .mask) (seriesOf c 0 values) x (record {
+      ap₂ (λ (l : Limits) (s : List Float). answerOf (under l) (c .set .mask) s x) (ap (λ (v : Measured). v .main) e) f
+      ∙ marking.answer-done (under (measured c values .main)) (c .set .mask) (seriesOf c 0 values) x
+      (marking.accepts (under (measured c values .main)) (c .set .mask) (seriesOf c 0 values) (record {
         few = omega (arith, length-series c 0 values, h .main-few);
         small = held c (length values) (h .right) .figures .set-small;
         sound = sound .main-limits;
         finite = sound .main-points;
-        wide = omega (arith, length-series c 0 values, h .main-marks-room);
-      })
+      }))
+      (omega (arith, length-series c 0 values, h .main-marks-room))
 
-  pub dispersion-accepted : {points : List Float} → points ≡ seriesOf c 1 values → answerOf (w .dispersion) (c .set .mask) points y ≡ 0
+  pub dispersion-accepted : {points : List Float} → points ≡ seriesOf c 1 values → answerOf (under (w .dispersion)) (c .set .mask) points y ≡ 0
   dispersion-accepted f =
-      ap₂ (λ (l : Limits) (s : List Float). answerOf l (c .set .mask) s y) (ap (λ (v : Measured). v .dispersion) e) f
-      ∙ accepts (measured c values .dispersion) (c .set .mask) (seriesOf c 1 values) y (record {
+      ap₂ (λ (l : Limits) (s : List Float). answerOf (under l) (c .set .mask) s y) (ap (λ (v : Measured). v .dispersion) e) f
+      ∙ marking.answer-done (under (measured c values .dispersion)) (c .set .mask) (seriesOf c 1 values) y
+      (marking.accepts (under (measured c values .dispersion)) (c .set .mask) (seriesOf c 1 values) (record {
         few = omega (arith, length-series c 1 values, h .dispersion-few);
         small = held c (length values) (h .right) .figures .set-small;
         sound = sound .dispersion-limits;
         finite = sound .dispersion-points;
-        wide = omega (arith, length-series c 1 values, h .dispersion-marks-room);
-      })
+      }))
+      (omega (arith, length-series c 1 values, h .dispersion-marks-room))
 
 module _ (c : Chart) (values : List Float) {w : Measured} (e : w ≡ measured c values)
     {main dispersion : List Float} (m : main ≡ seriesOf c 0 values) (d : dispersion ≡ seriesOf c 1 values) where
-  pub main-marks : marksOf (w .main) (c .set .mask) main ≡ seriesMarks c 0 values
+  pub main-marks : marksOf (under (w .main)) (c .set .mask) main ≡ seriesMarks c 0 values
   unfolding seriesMarks bySeries
-  main-marks = ap₂ (λ (l : Limits) (s : List Float). marksOf l (c .set .mask) s) (ap (λ (v : Measured). v .main) e) m
+  main-marks = ap₂ (λ (l : Limits) (s : List Float). marksOf (under l) (c .set .mask) s) (ap (λ (v : Measured). v .main) e) m
 
-  pub dispersion-marks : marksOf (w .dispersion) (c .set .mask) dispersion ≡ seriesMarks c 1 values
+  pub dispersion-marks : marksOf (under (w .dispersion)) (c .set .mask) dispersion ≡ seriesMarks c 1 values
   unfolding seriesMarks bySeries
-  dispersion-marks = ap₂ (λ (l : Limits) (s : List Float). marksOf l (c .set .mask) s) (ap (λ (v : Measured). v .dispersion) e) d
+  dispersion-marks = ap₂ (λ (l : Limits) (s : List Float). marksOf (under l) (c .set .mask) s) (ap (λ (v : Measured). v .dispersion) e) d
 
   pub answer-done : not (w .sound) ≡ false
-      → answerDone (w .main) (w .dispersion) (numberOf (marksOf (w .main) (c .set .mask) main) + numberOf (marksOf (w .dispersion) (c .set .mask) dispersion))
+      → answerDone (w .main) (w .dispersion) (numberOf (marksOf (under (w .main)) (c .set .mask) main) + numberOf (marksOf (under (w .dispersion)) (c .set .mask) dispersion))
       ≡ answerFor (firstOf (at7 c values) 0) c values
   unfolding answerFor
   answer-done ok =

@@ -12,6 +12,7 @@ use Rattle.laws.specs.Front.{atFront}
 use Rattle.sets.specs.Sets.{tests, has}
 use Rattle.rules.specs.declared.Limits.{Limits}
 use Rattle.floats.specs.Finite.{allFinite}
+use Rattle.rules.specs.Terms.{under}
 use Rattle.rules.specs.Marking.{marksOf}
 use Rattle.charts.specs.declared.Chart.{Chart}
 use Rattle.charts.specs.declared.Evaluated.{Evaluated}
@@ -84,7 +85,7 @@ limitsOf c s values = bySeries s (measured c values .main) (measured c values .d
 
 -- the marks of a series
 unfoldable pub seriesMarks : Chart → ℕ → List Float → List ℕ
-seriesMarks c s values = marksOf (limitsOf c s values) (c .set .mask) (seriesOf c s values)
+seriesMarks c s values = marksOf (under (limitsOf c s values)) (c .set .mask) (seriesOf c s values)
 
 -- "the number of marks (pairs of point and test, ..)"
 unfoldable pub numberOf : List ℕ → ℕ

@@ -10,6 +10,7 @@ use Rattle.laws.specs.Refusals.{firstOf}
 use Rattle.laws.specs.Front.{atFront}
 use Rattle.sets.specs.declared.RuleSet.{RuleSet}
 use Rattle.sets.specs.Sets.{tooLarge}
+use Rattle.rules.specs.Marking.{most}
 use Rattle.floats.specs.Finite.{allFinite}
 use Rattle.charts.specs.declared.Chart.{Chart}
 use Rattle.charts.specs.declared.Refusal.{Refusal}
@@ -54,7 +55,7 @@ sizeWrong kind size = byKind kind (not (eqb size 1)) (subgroupWrong size) (subgr
 
 -- all of it but for the slice
 unfoldable pub ownWrong : Chart → Bool
-ownWrong c = kindWrong (c .kind) || sizeWrong (c .kind) (c .size) || ltb 4096 (c .count) || tooLarge (c .set .mask)
+ownWrong c = kindWrong (c .kind) || sizeWrong (c .kind) (c .size) || ltb most (c .count) || tooLarge (c .set .mask)
 
 -- where the values have so much room
 unfoldable pub recordWrong : Chart → ℕ → Bool
@@ -92,7 +93,7 @@ addOf c values sample =
     ((recordWrong c (length values), (14, c))
     ∷ (not (eqb (length sample) (c .size)), (2, c))
     ∷ (not (allFinite sample), (3, c))
-    ∷ (leb 4096 (c .count), (5, c))
+    ∷ (leb most (c .count), (5, c))
     ∷ (ltb (length values) (c .count * c .size + c .size), (6, c))
     ∷ [])
     (0, record { kind = c .kind; size = c .size; count = c .count + 1; set = c .set })

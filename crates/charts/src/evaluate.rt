@@ -17,6 +17,7 @@ ghost use Prim.Native.Nat.{_+_, _≤_};
 ghost use lib.ListN.{length};
 ghost use Rattle.laws.specs.Refusals.{firstOf};
 ghost use Rattle.laws.specs.Front.{atFront};
+ghost use Rattle.rules.specs.Terms.{under};
 ghost use Rattle.rules.specs.Marking.{marksOf, answerOf};
 ghost use Rattle.charts.specs.Arith.{plusZero};
 ghost use Rattle.charts.specs.Records.{recordWrong};
@@ -106,18 +107,18 @@ fn mark_both(
     main_marks: &mut [u16],
     dispersion_marks: &mut [u16],
 ) -> Evaluation
-    requires { ⌜ (answerOf (w .main) (set .mask) (now main) (length (now «main_marks»)) ≡ 0)
-        × (answerOf (w .dispersion) (set .mask) (now dispersion) (length (now «dispersion_marks»)) ≡ 0) ⌝ }
+    requires { ⌜ (answerOf (under (w .main)) (set .mask) (now main) (length (now «main_marks»)) ≡ 0)
+        × (answerOf (under (w .dispersion)) (set .mask) (now dispersion) (length (now «dispersion_marks»)) ≡ 0) ⌝ }
     ensures answer { λ r. ⌜ r ≡ record {
       main = w .main;
       dispersion = w .dispersion;
-      marks = numberOf (marksOf (w .main) (set .mask) (now (main .entry)))
-          + numberOf (marksOf (w .dispersion) (set .mask) (now (dispersion .entry)));
+      marks = numberOf (marksOf (under (w .main)) (set .mask) (now (main .entry)))
+          + numberOf (marksOf (under (w .dispersion)) (set .mask) (now (dispersion .entry)));
     } ⌝ }
     ensures main_marks { λ r. ⌜ now («main_marks» .exit)
-        ≡ atFront (marksOf (w .main) (set .mask) (now (main .entry))) (now («main_marks» .entry)) ⌝ }
+        ≡ atFront (marksOf (under (w .main)) (set .mask) (now (main .entry))) (now («main_marks» .entry)) ⌝ }
     ensures dispersion_marks { λ r. ⌜ now («dispersion_marks» .exit)
-        ≡ atFront (marksOf (w .dispersion) (set .mask) (now (dispersion .entry))) (now («dispersion_marks» .entry)) ⌝ }
+        ≡ atFront (marksOf (under (w .dispersion)) (set .mask) (now (dispersion .entry))) (now («dispersion_marks» .entry)) ⌝ }
 {
     let a = w.main;
     let b = w.dispersion;

@@ -10,6 +10,7 @@ mod series;
 mod sigma;
 
 use rules::Limits;
+use rules::MOST;
 use sets::RuleSet;
 ghost use mathlib.Core.Path.{_≡_};
 ghost use lib.ListN.{length};
@@ -302,7 +303,7 @@ impl Chart {
         if !floats::all_finite(sample) {
             return Changed::Refused(Refusal::NotFinite);
         }
-        if 4096 <= self.count {
+        if MOST <= self.count {
             return Changed::Refused(Refusal::Full);
         }
         let at = self.count * self.size;

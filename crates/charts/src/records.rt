@@ -2,6 +2,7 @@
 use super::Chart;
 use super::INDIVIDUALS;
 use super::X_BAR_S;
+use rules::MOST;
 use sets::RuleSet;
 ghost use mathlib.Core.Path.{_≡_};
 ghost use Rattle.charts.specs.Records.{kindWrong, sizeWrong, ownWrong, recordWrong};
@@ -27,7 +28,7 @@ pub fn own_wrong(c: Chart) -> bool
 {
     let kind = kind_wrong(c.kind);
     let size = size_wrong(c.kind, c.size);
-    kind | size | (4096 < c.count) | (RuleSet::ALL < c.set.mask)
+    kind | size | (MOST < c.count) | (RuleSet::ALL < c.set.mask)
 }
 
 // Where the values have so much room.

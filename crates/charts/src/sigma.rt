@@ -7,6 +7,7 @@ use super::evaluate;
 use super::factors;
 use super::limits;
 use super::limits::Measured;
+use rules::MOST;
 ghost use mathlib.Core.Path.{_≡_};
 ghost use mathlib.Core.Bool.{false};
 ghost use Prim.Native.Nat.{_≤_};
@@ -27,9 +28,9 @@ fn measure(c: Chart, values: &[f64]) -> Measured
     requires { ⌜ (recordWrong c (length (now values)) ≡ false) × (1 ≤ c .count) ⌝ }
     ensures { λ r. ⌜ r ≡ measured c (now (values .entry)) ⌝ }
 {
-    let mut main = [0.0f64; 4096];
-    let mut dispersion = [0.0f64; 4096];
-    evaluate::measure(c, values, &mut main[0..4096], &mut dispersion[0..4096])
+    let mut main = [0.0f64; MOST];
+    let mut dispersion = [0.0f64; MOST];
+    evaluate::measure(c, values, &mut main[0..MOST], &mut dispersion[0..MOST])
 }
 
 fn centre(w: Measured) -> Surveyed
@@ -46,7 +47,7 @@ pub fn survey(c: Chart, values: &[f64]) -> Surveyed
     ensures { λ r. ⌜ surveyed r
         ≡ unlessRefused (sigmaNumber c (now (values .entry))) (measured c (now (values .entry)) .dispersion .cl) ⌝ }
 {
-    match evaluate::check(c, values, 4096, 4096, 4096, 4096) {
+    match evaluate::check(c, values, MOST, MOST, MOST, MOST) {
         evaluate::Tested::Refused(why) => Surveyed::Refused(why),
         evaluate::Tested::Passed => centre(measure(c, values)),
     }

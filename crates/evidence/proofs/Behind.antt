@@ -20,7 +20,7 @@ use Rattle.sets.specs.declared.Test.{Test}
 use Rattle.sets.specs.declared.Found.the-variants as finding
 use Rattle.sets.specs.Sets.{bitOf, tests, testOf, testAt, has, setOf}
 use Rattle.sets.proofs.Sets.{agree, bitOf-lt, was-found, was-nothing, has-setOf, and-setOf}
-use Rattle.rules.specs.declared.Limits.{Limits}
+use Rattle.rules.specs.Terms.{Terms}
 use Rattle.rules.specs.Lines.{linesOf}
 use Rattle.rules.specs.Tests.{window, shows}
 use Rattle.floats.specs.Finite.{finite, allFinite}
@@ -30,7 +30,7 @@ use Rattle.evidence.specs.Evidence.{shownAt}
 use Rattle.evidence.specs.Steps.{showsAlone, spanAt}
 use Rattle.rules.proofs.Columns.{window-most}
 use Rattle.rules.proofs.Meaning.{length-marks, marks-at}
-use Rattle.rules.proofs.Accepted.{only-finite}
+use Rattle.rules.proofs.Accepted.{room-enough, only-finite}
 
 -- ---- a window as a series of its own
 
@@ -84,34 +84,34 @@ module _ (values : List Float) (at n : ℕ) (fits : n ≤ suc at) where
       ∙ ap allFinite (take-all n part (omega (arith, length-part h)))
 
 -- a window of the test's own length shows its pattern exactly where the test stands there
-module _ (limits : Limits) (t : Test) where
-  stands-alone : (values : List Float) → stands (linesOf limits) (newestFirst values (window t)) t ≡ shows t (linesOf limits) (newestFirst values (window t))
+module _ (terms : Terms) (t : Test) where
+  stands-alone : (values : List Float) → stands (linesOf (terms .limits)) (newestFirst values (window t)) t ≡ shows t (linesOf (terms .limits)) (newestFirst values (window t))
   unfolding stands
   stands-alone values =
       let w = newestFirst values (window t) in
       let long : length w ≡ window t = length-newest values (window t) in
-      ap₂ (λ (b : Bool) (x : List Float). b && shows t (linesOf limits) x) (le-leb (window t) (length w) (omega (arith, long)))
+      ap₂ (λ (b : Bool) (x : List Float). b && shows t (linesOf (terms .limits)) x) (le-leb (window t) (length w) (omega (arith, long)))
       (take-all (window t) w (omega (arith, long)))
 
   pub stands-behind : (values : List Float) (at : ℕ) → window t ≤ suc at
-      → stands (linesOf limits) (newestFirst values (suc at)) t ≡ shows t (linesOf limits) (newestFirst (partTo (window t) at values) (window t))
+      → stands (linesOf (terms .limits)) (newestFirst values (suc at)) t ≡ shows t (linesOf (terms .limits)) (newestFirst (partTo (window t) at values) (window t))
   unfolding stands
   stands-behind values at h =
       let past = newestFirst values (suc at) in
-      ap (λ (b : Bool). b && shows t (linesOf limits) (take (window t) past)) (le-leb (window t) (length past) (omega (arith, length-newest values (suc at))))
-      ∙ ap (λ (w : List Float). shows t (linesOf limits) w) (sym (part-newest values at (window t) h))
+      ap (λ (b : Bool). b && shows t (linesOf (terms .limits)) (take (window t) past)) (le-leb (window t) (length past) (omega (arith, length-newest values (suc at))))
+      ∙ ap (λ (w : List Float). shows t (linesOf (terms .limits)) w) (sym (part-newest values at (window t) h))
 
   -- ---- the mark of a set with this test alone
 
   pub mark-alone : (values : List Float) (i : ℕ) → suc i ≡ window t
-      → not (eqb (marksAt (linesOf limits) (2 ^ bitOf t) values i) 0) ≡ shows t (linesOf limits) (newestFirst values (window t))
+      → not (eqb (marksAt (linesOf (terms .limits)) (2 ^ bitOf t) values i) 0) ≡ shows t (linesOf (terms .limits)) (newestFirst values (window t))
   unfolding marksAt
   mark-alone values i e =
-      let p : Test → Bool = stands (linesOf limits) (newestFirst values (suc i)) in
+      let p : Test → Bool = stands (linesOf (terms .limits)) (newestFirst values (suc i)) in
       ap (λ (m : ℕ). not (eqb m 0)) (sym (and-setOf (2 ^ bitOf t) p) ∙ and-comm (2 ^ bitOf t) (setOf p))
       ∙ test-pow (setOf p) (bitOf t)
       ∙ unfold has in has-setOf p t
-      ∙ ap (λ (k : ℕ). stands (linesOf limits) (newestFirst values k) t) e
+      ∙ ap (λ (k : ℕ). stands (linesOf (terms .limits)) (newestFirst values k) t) e
       ∙ stands-alone values
 
 -- ---- the window marked as a series of its own
@@ -124,70 +124,70 @@ window-least t = leb-true 1 (window t) (agree (λ (u : Test). leb 1 (window u)) 
 pub part-bounds : (t : Test) (part : List Float) → length part ≡ window t → (1 ≤ length part) × (length part ≤ 15)
 part-bounds t part long = (omega (arith, window-least t), omega (arith, window-most t))
 
-module _ (limits : Limits) (t : Test) (part : List Float) (long : length part ≡ window t) (set : ℕ) (alone : set ≡ 2 ^ bitOf t) where
+module _ (terms : Terms) (t : Test) (part : List Float) (long : length part ≡ window t) (set : ℕ) (alone : set ≡ 2 ^ bitOf t) where
   -- only the finite decide whether it is refused
-  by-finite : answerOf limits set part 15 ≡ cond (finiteLimits limits && allFinite part) 0 3
+  by-finite : answerOf terms set part 15 ≡ cond (finiteLimits (terms .limits) && allFinite part) 0 3
   by-finite =
       let small : 2 ^ bitOf t < 2 ^ 9 = pow-lt (bitOf-lt t) in
-      let most = part-bounds t part long .1 in
-      only-finite limits set part 15 (omega arith) (omega arith) most
+      let few = part-bounds t part long .1 in
+      room-enough terms set part 15 (λ h. few) ∙ only-finite terms set part (omega arith) (omega arith)
 
-  pub refused-alone : (answerOf limits set part 15 ≡ 0 → ⊥) → false ≡ showsAlone limits t part
-  refused-alone h = by (finiteLimits limits) (allFinite part) _ by-finite
+  pub refused-alone : (answerOf terms set part 15 ≡ 0 → ⊥) → false ≡ showsAlone terms t part
+  refused-alone h = by (finiteLimits (terms .limits)) (allFinite part) _ by-finite
     where
-      by : (f a x : Bool) → answerOf limits set part 15 ≡ cond (f && a) 0 3 → false ≡ (f && (a && x))
+      by : (f a x : Bool) → answerOf terms set part 15 ≡ cond (f && a) 0 3 → false ≡ (f && (a && x))
       by true true x e = absurd (h e)
       by true false x e = refl
       by false a x e = refl
 
-  last-mark : answerOf limits set part 15 ≡ 0
-      → not (eqb (getD (marksAfter limits set part (replicate 15 0)) (length part - 1) 0) 0) ≡ shows t (linesOf limits) (newestFirst part (length part))
+  last-mark : answerOf terms set part 15 ≡ 0
+      → not (eqb (getD (marksAfter terms set part (replicate 15 0)) (length part - 1) 0) 0) ≡ shows t (linesOf (terms .limits)) (newestFirst part (length part))
   unfolding marksAfter
   last-mark e =
       let old = replicate {A = ℕ} 15 0 in
       let i = length part - 1 in
       let least = part-bounds t part long .0 in
       let last : suc i ≡ window t = omega arith in
-      let marks = marksOf limits set part in
-      let within : i < length marks = omega (arith, length-marks limits set part) in
+      let marks = marksOf terms set part in
+      let within : i < length marks = omega (arith, length-marks terms set part) in
       ap (λ (b : Bool). not (eqb (getD (cond b (atFront marks old) old) i 0) 0)) (eq-eqb _ _ e)
-      ∙ ap (λ (m : ℕ). not (eqb m 0)) (List·getD-append marks (drop (length marks) old) 0 i within ∙ marks-at limits set part i (omega arith))
-      ∙ ap (λ (k : ℕ). not (eqb (marksAt (linesOf limits) k part i) 0)) alone
-      ∙ mark-alone limits t part i last
-      ∙ ap (λ (k : ℕ). shows t (linesOf limits) (newestFirst part k)) (sym long)
+      ∙ ap (λ (m : ℕ). not (eqb m 0)) (List·getD-append marks (drop (length marks) old) 0 i within ∙ marks-at terms set part i (omega arith))
+      ∙ ap (λ (k : ℕ). not (eqb (marksAt (linesOf (terms .limits)) k part i) 0)) alone
+      ∙ mark-alone terms t part i last
+      ∙ ap (λ (k : ℕ). shows t (linesOf (terms .limits)) (newestFirst part k)) (sym long)
 
-  pub marked-alone : answerOf limits set part 15 ≡ 0
-      → not (eqb (getD (marksAfter limits set part (replicate 15 0)) (length part - 1) 0) 0) ≡ showsAlone limits t part
-  marked-alone done = by (finiteLimits limits) (allFinite part) _ _ by-finite (last-mark done)
+  pub marked-alone : answerOf terms set part 15 ≡ 0
+      → not (eqb (getD (marksAfter terms set part (replicate 15 0)) (length part - 1) 0) 0) ≡ showsAlone terms t part
+  marked-alone done = by (finiteLimits (terms .limits)) (allFinite part) _ _ by-finite (last-mark done)
     where
-      by : (f a x y : Bool) → answerOf limits set part 15 ≡ cond (f && a) 0 3 → y ≡ x → y ≡ (f && (a && x))
+      by : (f a x y : Bool) → answerOf terms set part 15 ≡ cond (f && a) 0 3 → y ≡ x → y ≡ (f && (a && x))
       by true true x y e is = is
       by true false x y e is = absurd (omega arith)
       by false a x y e is = absurd (omega arith)
 
 -- ---- what is shown at a position
 
-module _ (series : List Float) (limits : Limits) (at bit : ℕ) where
-  pub past-the-series : length series ≤ at → shownAt series limits at bit ≡ false
+module _ (series : List Float) (terms : Terms) (at bit : ℕ) where
+  pub past-the-series : length series ≤ at → shownAt series terms at bit ≡ false
   unfolding shownAt
   past-the-series h = simp (le-ltb at (length series) h)
 
-  pub no-such-test : testAt bit ≡ finding.Nothing → shownAt series limits at bit ≡ false
+  pub no-such-test : testAt bit ≡ finding.Nothing → shownAt series terms at bit ≡ false
   unfolding shownAt tests
   no-such-test e = simp (le-ltb bit 9 (was-nothing bit e), and-false)
 
   shown-by-window : at < length series → bit < 9 → window (testOf bit) ≤ suc at
-      → shownAt series limits at bit
-      ≡ (finiteLimits limits
+      → shownAt series terms at bit
+      ≡ (finiteLimits (terms .limits)
       && (allFinite (partTo (window (testOf bit)) at series)
-      && shows (testOf bit) (linesOf limits) (newestFirst (partTo (window (testOf bit)) at series) (window (testOf bit)))))
+      && shows (testOf bit) (linesOf (terms .limits)) (newestFirst (partTo (window (testOf bit)) at series) (window (testOf bit)))))
   unfolding shownAt tests
   shown-by-window h k w =
       simp (lt-ltb at (length series) h, lt-ltb bit 9 k)
-      (ap₂ (λ (a b : Bool). finiteLimits limits && (a && b)) (part-finite series at (window (testOf bit)) w h)
-      (stands-behind limits (testOf bit) series at w))
+      (ap₂ (λ (a b : Bool). finiteLimits (terms .limits) && (a && b)) (part-finite series at (window (testOf bit)) w h)
+      (stands-behind terms (testOf bit) series at w))
 
-  pub no-span : shownAt series limits at bit ≡ false → spanAt series limits at bit ≡ record { start = 0; end = 0 }
+  pub no-span : shownAt series terms at bit ≡ false → spanAt series terms at bit ≡ record { start = 0; end = 0 }
   unfolding spanAt
   no-span e = simp e
 
@@ -199,27 +199,27 @@ module _ (series : List Float) (limits : Limits) (at bit : ℕ) where
     longs : n ≡ window (testOf bit)
     longs = long ∙ ap window (sym same)
 
-    pub no-such-window : at + 1 < n → shownAt series limits at bit ≡ false
+    pub no-such-window : at + 1 < n → shownAt series terms at bit ≡ false
     unfolding shownAt stands
     no-such-window h =
         let past = newestFirst series (suc at) in
         simp (lt-leb (window (testOf bit)) (length past) (omega (arith, longs, length-newest series (suc at))), and-false)
 
     pub shown-by-part : at < length series → n ≤ at + 1
-        → showsAlone limits t (take (at + 1 - (at + 1 - n)) (drop (at + 1 - n) series)) ≡ shownAt series limits at bit
+        → showsAlone terms t (take (at + 1 - (at + 1 - n)) (drop (at + 1 - n) series)) ≡ shownAt series terms at bit
     shown-by-part h w =
         let m = window (testOf bit) in
         let fits : m ≤ suc at = omega (arith, longs) in
         let length-is : at + 1 - (at + 1 - n) ≡ m = omega (arith, longs) in
         let start : at + 1 - n ≡ suc at - m = omega (arith, longs) in
-        ap (λ (u : Test). showsAlone limits u (take (at + 1 - (at + 1 - n)) (drop (at + 1 - n) series))) (sym same)
-        ∙ ap (showsAlone limits (testOf bit)) (ap₂ (λ (x y : ℕ). take x (drop y series)) length-is start)
-        ∙ ap (λ (k : ℕ). finiteLimits limits
-        && (allFinite (partTo m at series) && shows (testOf bit) (linesOf limits) (newestFirst (partTo m at series) k)))
+        ap (λ (u : Test). showsAlone terms u (take (at + 1 - (at + 1 - n)) (drop (at + 1 - n) series))) (sym same)
+        ∙ ap (showsAlone terms (testOf bit)) (ap₂ (λ (x y : ℕ). take x (drop y series)) length-is start)
+        ∙ ap (λ (k : ℕ). finiteLimits (terms .limits)
+        && (allFinite (partTo m at series) && shows (testOf bit) (linesOf (terms .limits)) (newestFirst (partTo m at series) k)))
         (length-part series at m fits h)
         ∙ sym (shown-by-window h (was-found bit t is .0) fits)
 
-    pub a-span : shownAt series limits at bit ≡ true → spanAt series limits at bit ≡ record { start = at + 1 - n; end = at + 1 }
+    pub a-span : shownAt series terms at bit ≡ true → spanAt series terms at bit ≡ record { start = at + 1 - n; end = at + 1 }
     unfolding spanAt
     a-span s =
         let start : suc at - window (testOf bit) ≡ at + 1 - n = omega (arith, longs) in

@@ -8,7 +8,7 @@ use lib.Dec.{ltb, leb, eqb}
 use lib.Ieee.{Float}
 use lib.ListN.{length, take, drop}
 use Rattle.sets.specs.Sets.{tests, testOf}
-use Rattle.rules.specs.declared.Limits.{Limits}
+use Rattle.rules.specs.Terms.{Terms}
 use Rattle.rules.specs.Lines.{linesOf}
 use Rattle.rules.specs.Tests.{window}
 use Rattle.floats.specs.Finite.{allFinite}
@@ -26,18 +26,18 @@ abbrev pub nothing : Part
 nothing = record { second = false; start = 0; long = 0 }
 
 -- The position and the test are in range, the limits and the window's values are finite, the window fits and shows the pattern.
-unfoldable pub shownAt : List Float → Limits → ℕ → ℕ → Bool
-shownAt series limits at bit =
+unfoldable pub shownAt : List Float → Terms → ℕ → ℕ → Bool
+shownAt series terms at bit =
     ltb at (length series)
     && (ltb bit (length tests)
-    && (finiteLimits limits
+    && (finiteLimits (terms .limits)
     && (allFinite (take (window (testOf bit)) (newestFirst series (suc at)))
-    && stands (linesOf limits) (newestFirst series (suc at)) (testOf bit))))
+    && stands (linesOf (terms .limits)) (newestFirst series (suc at)) (testOf bit))))
 
 -- the window that ends at the position, of the series of that number, 0 or 1
-unfoldable pub evidenceOf : List Float → List Float → ℕ → Limits → ℕ → ℕ → Part
-evidenceOf main dispersion number limits at bit =
-    cond (leb number 1 && shownAt (cond (eqb number 0) main dispersion) limits at bit)
+unfoldable pub evidenceOf : List Float → List Float → ℕ → Terms → ℕ → ℕ → Part
+evidenceOf main dispersion number terms at bit =
+    cond (leb number 1 && shownAt (cond (eqb number 0) main dispersion) terms at bit)
     (record { second = eqb number 1; start = suc at - window (testOf bit); long = window (testOf bit) })
     nothing
 

@@ -7,6 +7,7 @@ use sets::Test;
 ghost use mathlib.Core.Path.{_≡_};
 ghost use Prim.Native.Nat.{_≤_};
 ghost use lib.ListN.{length};
+ghost use Rattle.rules.specs.Terms.{under};
 ghost use Rattle.rules.specs.Tests.{window};
 ghost use Rattle.evidence.specs.Evidence.{evidenceOf, IsPart};
 ghost use Rattle.evidence.specs.Steps.{showsAlone, spanAt};
@@ -15,7 +16,7 @@ ghost use Rattle.evidence.specs.Steps.{showsAlone, spanAt};
 // as a series of its own, by a set with this test alone.
 fn shows_pattern(part: &[f64], limits: Limits, t: Test) -> bool
     requires { ⌜ length (now part) ≡ window t ⌝ }
-    ensures { λ r. ⌜ r ≡ showsAlone limits t (now (part .entry)) ⌝ }
+    ensures { λ r. ⌜ r ≡ showsAlone (under limits) t (now (part .entry)) ⌝ }
 {
     let mut marks = [0u16; 15];
     let set = RuleSet { mask: 1 << t.bit() };
@@ -34,7 +35,7 @@ struct Span {
 
 // The window that ends at a position, where it shows the pattern of a test, and else 0 and 0.
 fn span_at(series: &[f64], limits: Limits, at: usize, bit: u64) -> Span
-    ensures { λ r. ⌜ (r ≡ spanAt (now (series .entry)) limits at bit) × (r .start ≤ r .end) × (r .end ≤ length (now (series .entry))) ⌝ }
+    ensures { λ r. ⌜ (r ≡ spanAt (now (series .entry)) (under limits) at bit) × (r .start ≤ r .end) × (r .end ≤ length (now (series .entry))) ⌝ }
 {
     if series.len() <= at {
         return Span { start: 0, end: 0 };
@@ -77,7 +78,7 @@ pub fn evidence<'a>(
     at: usize,
     bit: u64,
 ) -> &'a [f64]
-    ensures { λ r. ⌜ IsPart (main .entry) (dispersion .entry) r (evidenceOf (now (main .entry)) (now (dispersion .entry)) series limits at bit) ⌝ }
+    ensures { λ r. ⌜ IsPart (main .entry) (dispersion .entry) r (evidenceOf (now (main .entry)) (now (dispersion .entry)) series (under limits) at bit) ⌝ }
 {
     if series == 0 {
         let span = span_at(main, limits, at, bit);

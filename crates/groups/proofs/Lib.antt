@@ -2,6 +2,8 @@
 pub mod Strings
 pub mod Shortest
 pub mod Numbers
+pub mod Onward
+pub mod Answers
 mod ReadLoop
 mod WriteLoop
 mod Examples

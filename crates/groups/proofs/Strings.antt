@@ -1,8 +1,10 @@
 -- What the string of a number looks like, and what stands at the front of some bytes, group by group. Assumes nothing.
-use Prim.Native.Nat.{ℕ, zero, suc, pred, _+_, _*_, _/_, _%_, _≤_, _<_}
+use Prim.Native.Nat.{ℕ, zero, suc, pred, _+_, _*_, _/_, _%_, _^_, _≤_, _<_}
 use native.Mathlib.Omega.{arith}
 use mathlib.Core.Path.{_≡_, refl, sym, ap, _∙_}
 use mathlib.Core.List.{List, [], _∷_}
+use native.Mathlib.Nat.{pow-suc}
+use lib.ListN.{length}
 use borrow.Author.Tests.{lt-ltb, le-ltb, ne-eqb, eq-eqb}
 use Rattle.laws.proofs.Digits.{by-digits}
 use Rattle.groups.specs.Groups.{groupsIn, groups, some, none, before, front}
@@ -46,6 +48,22 @@ groups-more x h =
     ∙ ap (λ (j : ℕ). groupsIn j x) x-is
     ∙ in-more (pred x) x h
     ∙ ap (λ (w : List ℕ). (128 + x % 128) ∷ w) (enough (x / 128) (pred x) (omega arith))
+
+pub groups-some : (x : ℕ) → 0 < length (groups x)
+groups-some = by-groups (λ (x : ℕ). 0 < length (groups x))
+    (λ x h. rw (groups-one x h) (omega arith))
+    (λ x h ih. rw (groups-more x h) (omega arith))
+
+-- a number below 128 ^ (k + 1) has at most k + 1 of them
+pub groups-most : (x k : ℕ) → x < 128 ^ suc k → length (groups x) ≤ suc k
+groups-most = by-groups (λ (x : ℕ). (k : ℕ) → x < 128 ^ suc k → length (groups x) ≤ suc k)
+    (λ x h k l. rw (groups-one x h) (omega arith))
+    (λ x h ih. by x h ih)
+  where
+    by : (x : ℕ) → 128 ≤ x → ((k : ℕ) → x / 128 < 128 ^ suc k → length (groups (x / 128)) ≤ suc k)
+        → (k : ℕ) → x < 128 ^ suc k → length (groups x) ≤ suc k
+    by x h ih zero l = absurd (omega arith)
+    by x h ih (suc k) l = rw (groups-more x h) (omega (arith, ih k (omega (arith, pow-suc 128 (suc k)))))
 
 -- ---- what stands at the front
 

@@ -11,17 +11,7 @@ use lib.Bits.{bitAnd, bitOr, and-le-r, or-lt, and-mask, or-shifted-r}
 use Rattle.laws.specs.Front.{atFront}
 use Rattle.laws.proofs.Filling.{Filling, filling-starts, filling-length, filling-goes-on, filling-ends}
 use Rattle.groups.specs.Groups.{groups}
-use Rattle.groups.proofs.Strings.{by-groups, groups-one, groups-more}
-
-pub groups-some : (x : ℕ) → 0 < length (groups x)
-groups-some = by-groups (λ (x : ℕ). 0 < length (groups x))
-    (λ x h. rw (groups-one x h) (omega arith))
-    (λ x h ih. rw (groups-more x h) (omega arith))
-
-pub groups-few : (x : ℕ) → length (groups x) ≤ 1 + x / 128
-groups-few = by-groups (λ (x : ℕ). length (groups x) ≤ 1 + x / 128)
-    (λ x h. rw (groups-one x h) (omega arith))
-    (λ x h ih. rw (groups-more x h) (omega arith))
+use Rattle.groups.proofs.Strings.{groups-one, groups-more, groups-some}
 
 -- a group with more to come, as the code makes it
 top-bit : (x : ℕ) → bitOr (bitAnd x 127) 128 ≡ 128 + x % 128

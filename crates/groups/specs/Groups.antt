@@ -1,10 +1,10 @@
 -- Numbers in groups of seven bits: low group first, top bit set on all but the last group, shortest form
 -- (01, 'The mark sheet', first sentence). Definitions only.
 use Prim.Native.Nat.{ℕ, zero, suc, _+_, _*_, _/_, _%_, _^_}
-use mathlib.Core.Bool.{true, false, cond}
+use mathlib.Core.Bool.{Bool, true, false, cond}
 use mathlib.Core.List.{List, [], _∷_}
-use lib.ListN.{length, drop}
-use lib.Dec.{ltb, leb, eqb}
+use lib.ListN.{drop}
+use lib.Dec.{ltb, eqb}
 use Rattle.groups.specs.declared.Reading.{Reading}
 use Rattle.groups.specs.declared.Reading.the-variants.{Number, Fault}
 use Rattle.groups.specs.declared.Writing.{Writing}
@@ -22,11 +22,17 @@ unfoldable pub groups : ℕ → List ℕ
 unfolding groupsIn
 groups x = groupsIn x x
 
--- What writing bytes into a room answers: how many it took, or that the room is too short for them.
-abbrev pub writing : List ℕ → List ℕ → Writing
-writing bytes room = cond (leb (length bytes) (length room)) (Bytes (length bytes)) Short
+-- 01's number, and how many bytes were taken
+abbrev pub written : Writing → ℕ × ℕ
+written (Bytes n) = (0, n)
+written Short = (6, 0)
 
 -- ---- reading
+
+-- 01's number, the value, and the place: past the number, or of its first byte where it is at fault
+abbrev pub found : Reading → ℕ × ℕ × ℕ
+found (Number v next) = (0, v, next)
+found (Fault at) = (9, 0, at)
 
 -- What stands at the front of some bytes: a number of any size and how many bytes it takes, or none.
 pub data Front : Type 0 where
@@ -52,3 +58,15 @@ readAs at (some v n) = cond (ltb v (2 ^ 64)) (Number v (at + n)) (Fault at)
 unfoldable pub numberAt : List ℕ → ℕ → Reading
 unfolding front
 numberAt s at = readAs at (front (drop at s))
+
+-- ---- a number "by form then value" (01, 'The report program'; 'The mark sheet', second paragraph), in front of what the rest says
+
+module _ {A : Type 0} where
+  -- Where a number was read whose value is in place, what the rest says, told the value and the place past it; else what a fault of its
+  -- form gives, or what a value out of place gives.
+  abbrev pub onward : A → A → (ℕ → Bool) → (ℕ → ℕ → A) → Reading → A
+  onward form value ok rest (Fault p) = form
+  onward form value ok rest (Number v next) = cond (ok v) (rest v next) value
+
+  abbrev pub number : A → A → (ℕ → Bool) → List ℕ → ℕ → (ℕ → ℕ → A) → A
+  number form value ok s at rest = onward form value ok rest (numberAt s at)

@@ -1,24 +1,49 @@
 // Numbers in groups of seven bits: low group first, top bit set on all but the last group, shortest form.
 ghost use mathlib.Core.Path.{_≡_};
+ghost use Prim.Native.Nat.{_≤_};
 ghost use lib.ListN.{length};
-ghost use Rattle.laws.specs.Front.{atFrontIfRoom};
-ghost use Rattle.groups.specs.Groups.{groups, numberAt, writing};
+ghost use Rattle.laws.specs.Front.{atFrontIfRoom, roomFor};
+ghost use Rattle.groups.specs.Groups.{groups, numberAt, found, written};
 
 /// What reading a number finds.
 pub enum Reading {
-    /// The number, and the place just past its last byte.
+    /// The number, and the place just past its last byte (0).
     Number { value: u64, next: usize },
-    /// No number: the bytes end inside it or before it, or it is longer than shortest, or over 64 bits.
+    /// No number: the bytes end inside it or before it, or it is longer than shortest, or over 64 bits (9).
     /// The place is that of its first byte.
     Fault { at: usize },
 }
 
 /// What writing a number comes to.
 pub enum Writing {
-    /// So many bytes at the front of the room were taken.
+    /// So many bytes at the front of the room were taken (0).
     Bytes(usize),
-    /// The room is too short, and is as it came.
+    /// The room is too short, and is as it came (6).
     Short,
+}
+
+impl Reading {
+    /// 01's number of the answer.
+    pub fn number(self) -> u8
+        ensures { λ r. ⌜ r ≡ found self .0 ⌝ }
+    {
+        match self {
+            Reading::Number { value: _, next: _ } => 0,
+            Reading::Fault { at: _ } => 9,
+        }
+    }
+}
+
+impl Writing {
+    /// 01's number of the answer.
+    pub fn number(self) -> u8
+        ensures { λ r. ⌜ r ≡ written self .0 ⌝ }
+    {
+        match self {
+            Writing::Bytes(_) => 0,
+            Writing::Short => 6,
+        }
+    }
 }
 
 fn wide(b: u8) -> u64
@@ -80,14 +105,18 @@ pub fn read_number(s: &[u8], at: usize) -> Reading
     Reading::Fault { at }
 }
 
-// How many groups a number has.
-fn count_groups(x: u64) -> usize
-    ensures { λ r. ⌜ r ≡ length (groups x) ⌝ }
+/// How many groups the number `x` has, from 1 to 10.
+///
+/// # Example
+///
+/// `size(127)` is 1 and `size(128)` is 2.
+pub fn size(x: u64) -> usize
+    ensures { λ r. ⌜ (r ≡ length (groups x)) × (r ≤ 10) ⌝ }
 {
-    let mut rest = x;
+    let mut left = x;
     let mut n: usize = 1;
-    while 128 <= rest {
-        rest = rest >> 7;
+    while 128 <= left {
+        left = left >> 7;
         n += 1;
     }
     n
@@ -105,10 +134,10 @@ fn count_groups(x: u64) -> usize
 ///
 /// `write_number(out, 128)` writes `80 01` and gives `Bytes(2)`; into a room of one byte it gives `Short`.
 pub fn write_number(out: &mut [u8], x: u64) -> Writing
-    ensures answer { λ r. ⌜ r ≡ writing (groups x) (now (out .entry)) ⌝ }
+    ensures answer { λ r. ⌜ written r ≡ roomFor (groups x) (length (now (out .entry))) ⌝ }
     ensures room { λ r. ⌜ now (out .exit) ≡ atFrontIfRoom (groups x) (now (out .entry)) ⌝ }
 {
-    if out.len() < count_groups(x) {
+    if out.len() < size(x) {
         return Writing::Short;
     }
     let mut rest = x;

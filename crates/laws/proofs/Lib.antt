@@ -7,5 +7,6 @@ pub mod Digits
 pub mod Lists
 pub mod Filling
 pub mod Lending
+pub mod Rooms
 pub mod OneValue
 pub mod Refusals

@@ -1,10 +1,14 @@
 -- Going through refusals in their order: past those that do not apply, to the first that does, or to the end. Assumes nothing.
-use mathlib.Core.Path.{_≡_, refl, ap}
+use mathlib.Core.Path.{_≡_, refl, sym, ap, _∙_}
 use mathlib.Core.Bool.{Bool, true, false, cond}
-use mathlib.Core.List.{List, [], _∷_}
-use Prim.Native.Nat.{ℕ, _<_}
+use mathlib.Core.List.{List, [], _∷_, _++_, map}
+use Prim.Native.Nat.{ℕ, _≤_, _<_}
 use native.Mathlib.Omega.{arith}
-use Rattle.laws.specs.Refusals.{firstOf}
+use lib.Dec.{ltb, leb, eqb}
+use borrow.Author.Tests.{ltb-true, leb-true, ne-eqb}
+use Rattle.laws.specs.Bools.{every}
+use Rattle.laws.specs.Refusals.{firstOf, each}
+use Rattle.laws.proofs.Bools.{both}
 
 module _ {A : Type 0} (b : Bool) (x : A) (cs : List (Bool × A)) (done : A) where
   pub passed : b ≡ false → firstOf ((b, x) ∷ cs) done ≡ firstOf cs done
@@ -24,3 +28,70 @@ pub accepted : (b : Bool) (n : ℕ) (cs : List (Bool × ℕ)) → 0 < n → firs
 unfolding firstOf
 accepted true n cs h e = absurd (omega arith)
 accepted false n cs h e = (refl, e)
+
+-- ---- for any list
+
+-- no case of the list applies
+unfoldable pub Passed : {A : Type 0} → List (Bool × A) → Type 0
+Passed [] = Unit {0}
+Passed (c ∷ cs) = (c .0 ≡ false) × Passed cs
+
+-- every case has a number that is not 0
+abbrev pub numbers : List (Bool × ℕ) → Bool
+numbers cs = every (map (λ (c : Bool × ℕ). ltb 0 (c .1)) cs)
+
+module _ {A : Type 0} where
+  -- those of two lists, one behind the other
+  pub first-append : (cs ds : List (Bool × A)) (done : A) → firstOf (cs ++ ds) done ≡ firstOf cs (firstOf ds done)
+  unfolding firstOf
+  first-append [] ds done = refl
+  first-append (c ∷ cs) ds done = ap (cond (c .0) (c .1)) (first-append cs ds done)
+
+  pub all-passed : (cs : List (Bool × A)) (done : A) → Passed cs → firstOf cs done ≡ done
+  unfolding firstOf Passed
+  all-passed [] done h = refl
+  all-passed (c ∷ cs) done h = simp (h .0) (all-passed cs done (h .1))
+
+  -- what the first number gives, or what is done where there is none
+  pub each-first : (gives : ℕ → A) (cs : List (Bool × ℕ)) (done : A) → numbers cs ≡ true
+      → firstOf (each gives cs) done ≡ cond (eqb (firstOf cs 0) 0) done (gives (firstOf cs 0))
+  unfolding firstOf each every
+  each-first gives [] done h = refl
+  each-first gives (c ∷ cs) done h =
+      let both-so = both (ltb 0 (c .1)) (numbers cs) h in by (c .0) (ltb-true 0 (c .1) (both-so .0)) (each-first gives cs done (both-so .1))
+    where
+      by : (b : Bool) → 0 < c .1 → firstOf (each gives cs) done ≡ cond (eqb (firstOf cs 0) 0) done (gives (firstOf cs 0))
+          → cond b (gives (c .1)) (firstOf (each gives cs) done)
+          ≡ cond (eqb (cond b (c .1) (firstOf cs 0)) 0) done (gives (cond b (c .1) (firstOf cs 0)))
+      by true h e = simp (ne-eqb (c .1) 0 (omega arith))
+      by false h e = e
+
+each-same : (cs : List (Bool × ℕ)) → each (λ n. n) cs ≡ cs
+unfolding each
+each-same [] = refl
+each-same (c ∷ cs) = ap (_∷_ c) (each-same cs)
+
+-- the first number, or another where there is none
+pub first-else : (cs : List (Bool × ℕ)) (else : ℕ) → numbers cs ≡ true → firstOf cs else ≡ cond (eqb (firstOf cs 0) 0) else (firstOf cs 0)
+first-else cs else h = ap (λ (ds : List (Bool × ℕ)). firstOf ds else) (sym (each-same cs)) ∙ each-first (λ n. n) cs else h
+
+-- where the answer is 0, no case applies
+pub were-passed : (cs : List (Bool × ℕ)) → numbers cs ≡ true → firstOf cs 0 ≡ 0 → Passed cs
+unfolding firstOf every Passed
+were-passed [] h e = tt
+were-passed (c ∷ cs) h e =
+    let both-so = both (ltb 0 (c .1)) (numbers cs) h in
+    let here = accepted (c .0) (c .1) cs (ltb-true 0 (c .1) (both-so .0)) e in
+    (here .0, were-passed cs (both-so .1) (here .1))
+
+-- the first number is no larger than the largest
+pub first-under : (top : ℕ) (cs : List (Bool × ℕ)) → every (map (λ (c : Bool × ℕ). leb (c .1) top) cs) ≡ true → firstOf cs 0 ≤ top
+unfolding firstOf every
+first-under top [] h = omega arith
+first-under top (c ∷ cs) h =
+    let both-so = both (leb (c .1) top) (every (map (λ (d : Bool × ℕ). leb (d .1) top) cs)) h in
+    by (c .0) (leb-true (c .1) top (both-so .0)) (first-under top cs (both-so .1))
+  where
+    by : (b : Bool) → c .1 ≤ top → firstOf cs 0 ≤ top → cond b (c .1) (firstOf cs 0) ≤ top
+    by true h e = h
+    by false h e = e

@@ -9,6 +9,8 @@ use Rattle.rules.proofs.mark.Reads as mark
 use Rattle.rules.proofs.mark.Kinds as mark-kinds
 use Rattle.rules.proofs.Marked.number.Reads as number
 use Rattle.rules.proofs.Marked.number.Kinds as number-kinds
+use Rattle.rules.proofs.Refusal.number.Reads as refusal-number
+use Rattle.rules.proofs.Refusal.number.Kinds as refusal-number-kinds
 use Rattle.rules.proofs.finite_limits.Reads as finite-limits
 use Rattle.rules.proofs.finite_limits.Kinds as finite-limits-kinds
 use Rattle.rules.proofs.window.Reads as window
@@ -21,6 +23,9 @@ mark-one κs a x y s t p q =
 
 number-one : Coincide 0 number-kinds.ps number-kinds.r number.Post (λ κs x s. x)
 number-one κs a x y s t p q = p ∙ sym q
+
+refusal-number-one : Coincide 0 refusal-number-kinds.ps refusal-number-kinds.r refusal-number.Post (λ κs x s. x)
+refusal-number-one κs a x y s t p q = p ∙ sym q
 
 finite-limits-one : Coincide 0 finite-limits-kinds.ps finite-limits-kinds.r finite-limits.Post (λ κs x s. x)
 finite-limits-one κs a x y s t p q = p ∙ sym q

@@ -11,13 +11,11 @@ use lib.ListN.{length, replicate}
 use Rattle.laws.specs.Bools.{every, count}
 use Rattle.laws.specs.Bits.{hasBit, fromBits}
 use Rattle.laws.specs.Lists.{tabulateFrom}
-use Rattle.laws.specs.Front.{atFrontIfRoom}
-use Rattle.laws.specs.Refusals.{firstOf}
+use Rattle.laws.specs.Front.{atFrontIfRoom, roomFor}
+use Rattle.laws.specs.Refusals.{firstOf, each}
 use Rattle.groups.specs.declared.Reading.{Reading}
 use Rattle.groups.specs.declared.Reading.the-variants.{Number, Fault}
-use Rattle.groups.specs.declared.Writing.{Writing}
-use Rattle.groups.specs.declared.Writing.the-variants.{Bytes, Short}
-use Rattle.groups.specs.Groups.{groups, writing, numberAt}
+use Rattle.groups.specs.Groups.{groups, numberAt}
 use Rattle.root.specs.declared.Rooted.{Rooted}
 use Rattle.root.specs.declared.Rooted.the-variants as rooted
 use Rattle.root.specs.Root.{rootOf}
@@ -27,7 +25,8 @@ use Rattle.rules.specs.declared.Limits.{Limits}
 use Rattle.rules.specs.Lines.{oneSigma, twoSigma, linesOf}
 use Rattle.rules.specs.Tests.{steps, alternating, window, shows}
 use Rattle.rules.specs.Finite.{finiteLimits}
-use Rattle.rules.specs.Marking.{newestFirst, stands, marksAt, marksOf, answerOf, marksAfter}
+use Rattle.rules.specs.Terms.{under}
+use Rattle.rules.specs.Marking.{newestFirst, stands, marksAt, marksOf, ahead, answerOf, marksAfter}
 use Rattle.charts.specs.declared.Chart.{Chart}
 use Rattle.charts.specs.Arith.{plusZero, meanOf, signCleared, movingOf}
 use Rattle.charts.specs.Factors.{factorOf}
@@ -156,11 +155,11 @@ positions b i (m ∷ ms) = cond (hasBit m b) (i ∷ positions b (suc i) ms) (pos
 
 -- `mark` takes the values, and a slice of just their length, with every mark in it before, then passes the test
 marking : Limits → List Float → (List ℕ → Bool) → Bool
-unfolding marksAfter answerOf firstOf finiteLimits allFinite finite every
+unfolding marksAfter answerOf ahead firstOf finiteLimits allFinite finite every
     marksOf marksAt tabulateFrom newestFirst stands window shows tests bitOf has setOf hasBit fromBits count steps alternating
     linesOf oneSigma twoSigma add sub mul div lt le
 marking l values test =
-    eqb (answerOf l 511 values (length values)) 0 && test (marksAfter l 511 values (replicate (length values) 511))
+    eqb (answerOf (under l) 511 values (length values)) 0 && test (marksAfter (under l) 511 values (replicate (length values) 511))
 
 sameChart : ℕ × Chart → ℕ × Chart → Bool
 sameChart a b =
@@ -176,18 +175,14 @@ filled bytes = bytes ++ 7 ∷ []
 
 -- `write` gives the bytes, and `check` accepts them
 sheeting : List Float → ℕ → List ℕ → Bool
-unfolding usual room filled same writeOf roomAfter checkOf firstWrong saidFrom entries answerOf firstOf finiteLimits allFinite finite every
+unfolding usual room filled same writeOf roomAfter checkOf firstWrong saidFrom entries ahead each firstOf finiteLimits allFinite finite every
     marksOf marksAt tabulateFrom newestFirst stands window shows tests bitOf has setOf hasBit fromBits count steps alternating
     linesOf oneSigma twoSigma seriesSheet sheetOf marked entriesOf groups numberAt add sub mul div lt le
 sheeting values set bytes =
-    eqb (writeOf usual set values (length (room bytes)) .0) 0
-    && eqb (writeOf usual set values (length (room bytes)) .1) (length bytes)
-    && same (roomAfter usual set values (room bytes)) (filled bytes)
-    && eqb (checkOf usual set values bytes .0) 0
-
-isWritten : ℕ → Writing → Bool
-isWritten n (Bytes k) = eqb k n
-isWritten n Short = false
+    eqb (writeOf (under usual) set values (length (room bytes)) .0) 0
+    && eqb (writeOf (under usual) set values (length (room bytes)) .1) (length bytes)
+    && same (roomAfter (under usual) set values (room bytes)) (filled bytes)
+    && eqb (checkOf (under usual) set values bytes .0) 0
 
 isNumber : ℕ → ℕ → Reading → Bool
 isNumber n end (Number v next) = eqb v n && eqb next end
@@ -199,9 +194,10 @@ isFault (Fault p) = eqb p 0
 
 -- `write_number` gives the bytes, and `read_number` the number
 numbering : ℕ → List ℕ → Bool
-unfolding room filled same isWritten isNumber groups numberAt
+unfolding room filled same isNumber groups numberAt
 numbering n bytes =
-    isWritten (length bytes) (writing (groups n) (room bytes))
+    eqb (roomFor (groups n) (length (room bytes)) .0) 0
+    && eqb (roomFor (groups n) (length (room bytes)) .1) (length bytes)
     && same (atFrontIfRoom (groups n) (room bytes)) (filled bytes)
     && isNumber n (length bytes) (numberAt bytes 0)
 

@@ -1,4 +1,4 @@
--- The digits of a number, one by one: how many there are, and writing one behind those in front of it. Assumes nothing.
+-- The digits of a number, one by one, and how many there are. Assumes nothing.
 use mathlib.Core.Path.{_≡_, refl, sym, ap, _∙_}
 use mathlib.Core.Bool.{Bool, true, false}
 use mathlib.Core.List.{List, [], _∷_, _++_}
@@ -6,13 +6,9 @@ use Prim.Native.Nat.{ℕ, zero, suc, pred, _+_, _-_, _/_, _%_, _^_, _≤_, _<_}
 use native.Mathlib.Nat.{pow-suc}
 use native.Mathlib.Omega.{arith}
 use lib.Dec.{ltb}
-use lib.ListN.{length, getD, set, length-append}
+use lib.ListN.{length, length-append}
 use borrow.Author.Tests.{lt-ltb, le-ltb, ltb-true, ltb-false}
-use Rattle.laws.specs.Front.{atFront}
 use Rattle.laws.proofs.Digits.{by-digits}
-use Rattle.laws.proofs.Filling.{filling-goes-on, filling-ends}
-use Rattle.laws.proofs.Lending.{front-fills}
-use lib.Seq.{getD-append-seam}
 use Rattle.reports.specs.Text.{glyph, decimalIn, decimal, digits}
 
 -- ---- decimal digits
@@ -73,9 +69,6 @@ below-power (suc k) x h = by (ltb x 10) refl (below-power k (x / 10))
     by true e ih = omega (arith, length-one x (ltb-true x 10 e))
     by false e ih = omega (arith, length-more x (ltb-false x 10 e), ih (omega (arith, pow-suc 10 (suc k))))
 
-pub decimal-short : (x : ℕ) → x < 2 ^ 64 → length (decimal x) ≤ 20
-decimal-short x h = below-power 19 x (omega arith)
-
 -- ---- digits in a base
 
 pub digits-none : (base k x : ℕ) → k ≡ 0 → digits base k x ≡ []
@@ -108,19 +101,3 @@ decimal-digits = by-digits 10 (omega arith) (λ (x : ℕ). digits 10 (length (de
   where
     one : (x : ℕ) → digits 10 1 x ≡ glyph (x % 10) ∷ []
     one x = digits-more 10 1 x (λ z. omega arith) ∙ ap (λ (l : List ℕ). l ++ (glyph (x % 10) ∷ [])) (digits-none 10 0 (x / 10) refl)
-
--- ---- one digit behind those in front of it
-
-module _ (ds : List ℕ) (d : ℕ) (old now : List ℕ) (n : ℕ) (first : now ≡ atFront ds old) (count : n ≡ length ds) where
-  pub digit-behind : n < length old → set now n d ≡ atFront (ds ++ (d ∷ [])) old
-  digit-behind room =
-      let all = ds ++ (d ∷ []) in
-      let long : length all ≡ length ds + 1 = length-append ds (d ∷ []) in
-      let next : d ≡ getD all n 0 = sym (getD-append-seam ds d [] 0) ∙ ap (λ (k : ℕ). getD all k 0) (sym count) in
-      filling-ends all old (set now n d) (n + 1)
-      (filling-goes-on all old now n (front-fills all old now ds (d ∷ []) n refl (omega arith) first count) 0 d (omega arith) next)
-      (omega arith)
-
--- and one byte at the front of all
-pub byte-front : (b : ℕ) (old : List ℕ) → 0 < length old → set old 0 b ≡ atFront (b ∷ []) old
-byte-front b old h = digit-behind [] b old old 0 refl refl h

@@ -3,7 +3,7 @@
 use mathlib.Core.Path.{_≡_, refl, sym, ap, ap₂, _∙_}
 use mathlib.Core.Bool.{Bool, true, false, cond, not}
 use mathlib.Core.List.{List, _∷_, _++_}
-use Prim.Native.Nat.{ℕ, _-_, _*_, _≤_}
+use Prim.Native.Nat.{ℕ, _+_, _-_, _*_, _≤_}
 use native.Mathlib.Nat.{mul-le-mul-left, le-of-eq, sub-zero}
 use native.Mathlib.Decide.{ℕ-discrete}
 use native.Mathlib.Omega.{arith}
@@ -25,7 +25,7 @@ use Rattle.charts.specs.declared.Evaluated.the-variants.{Done, Refused}
 use Rattle.charts.specs.Records.{number, byKind, recordWrong}
 use Rattle.rules.specs.Marking.{marksOf}
 use Rattle.charts.specs.Series.{bySeries, pointsIn, pointAt, seriesOf}
-use Rattle.charts.specs.Evaluating.{Answer, evaluated, tooFew, noRoom, storedIn, aheadOf7, at7, limitsOf, seriesMarks, answerFor, evaluateOf, lentAfter}
+use Rattle.charts.specs.Evaluating.{Answer, evaluated, tooFew, noRoom, storedIn, aheadOf7, at7, limitsOf, seriesMarks, numberOf, answerFor, evaluateOf, lentAfter}
 use Rattle.charts.proofs.Held.{own}
 use Rattle.charts.specs.Limits.{measured}
 use Rattle.charts.proofs.Cases.{kind-1, subgroups}
@@ -93,6 +93,10 @@ module _ (c : Chart) (h : Legal c) (values : List Float) (whole : length values 
     pub dispersion-limits : e .dispersion ≡ limitsOf c 1 values
     unfolding answerFor bySeries
     dispersion-limits = ap (λ (a : Answer). a .dispersion) all
+
+    pub marks-number : e .marks ≡ numberOf (seriesMarks c 0 values) + numberOf (seriesMarks c 1 values)
+    unfolding answerFor
+    marks-number = ap (λ (a : Answer). a .marks) all
 
 -- the room that the report has for the series and the marks
 pub at-room : (c : Chart) (values : List Float) {a b x y : ℕ} → a ≡ 2048 → b ≡ 2048 → x ≡ 2048 → y ≡ 2048

@@ -1,14 +1,15 @@
 -- What the tests of the flow file's reader come to: a number by form and by value, in front of what the rest says; the whole head.
 -- Assumes nothing.
 use mathlib.Core.Path.{_≡_, refl, ap, _∙_}
-use mathlib.Core.Bool.{Bool, true, false, cond}
+use mathlib.Core.Bool.{Bool, true, false, not, cond}
 use mathlib.Core.List.{List}
 use Prim.Native.Nat.{ℕ, _*_, _≤_}
 use native.Mathlib.Omega.{arith}
 use borrow.Author.Tests.{ltb-false, le-ltb}
 use lib.Dec.{ltb}
-use Rattle.groups.specs.declared.Reading.the-variants.{Number, Fault}
+use Rattle.groups.specs.declared.Reading.the-variants.{Number}
 use Rattle.groups.specs.Groups.{numberAt}
+use Rattle.groups.proofs.Onward.{in-place}
 use Rattle.laws.specs.Refusals.{firstOf}
 use Rattle.charts.specs.declared.Chart.{Chart}
 use Rattle.charts.specs.declared.Refusal.{Refusal}
@@ -16,7 +17,7 @@ use Rattle.charts.specs.declared.Changed.the-variants.{Done, Refused}
 use Rattle.charts.specs.Records.{number, changed, noChart, newOf, kindWrong, sizeWrong, ownWrong}
 use Rattle.charts.proofs.Cases.{or-left, or-right}
 use Rattle.charts.proofs.Answers.{number-some}
-use Rattle.reports.specs.Flow.{Said, refused, onward, countWrong}
+use Rattle.reports.specs.Flow.{Said, refused, countWrong}
 use Rattle.reports.specs.Flow as flow
 use Rattle.reports.specs.Steps.{Legal}
 
@@ -28,14 +29,8 @@ pub record Passed (wrong : ℕ → Bool) (s : List ℕ) (at v next : ℕ) : Type
   pub right : wrong v ≡ false
 
 module _ (why : ℕ) (wrong : ℕ → Bool) (s : List ℕ) (at : ℕ) (rest : ℕ → ℕ → Said) where
-  pub no-number : (p : ℕ) → numberAt s at ≡ Fault p → flow.number why wrong s at rest ≡ refused 12
-  no-number p e = ap (onward why wrong rest) e
-
-  pub wrong-value : (v next : ℕ) → numberAt s at ≡ Number v next → wrong v ≡ true → flow.number why wrong s at rest ≡ refused why
-  wrong-value v next e h = ap (onward why wrong rest) e ∙ ap (λ (b : Bool). cond b (refused why) (rest v next)) h
-
   pub goes : {v next : ℕ} → Passed wrong s at v next → flow.number why wrong s at rest ≡ rest v next
-  goes {v} {next} p = ap (onward why wrong rest) (p .stands) ∙ ap (λ (b : Bool). cond b (refused why) (rest v next)) (p .right)
+  goes {v} {next} p = in-place (refused 12) (refused why) (λ v. not (wrong v)) s at rest v next (p .stands) (ap not (p .right))
 
 -- ---- a size is wrong exactly if no chart can be made of it
 

@@ -2,14 +2,13 @@
 mod Heads
 mod Values
 mod Digits
-mod Pouring
+mod Putting
 mod Words
 mod Limits
 pub mod Marks
-mod Measuring
 mod Charts
 mod Examples
 pub mod Answers
-pub mod Rooms
+mod Telling
 mod Evaluations
 pub mod Longest

@@ -1,33 +1,31 @@
 -- No report is longer than 405,704 bytes, whatever the bytes of the flow file are: a V line has at most 11, there are at most nine for each
 -- of 4,096 points, and all other lines together have at most 200. So a room of that many holds any. Assumes nothing.
-use mathlib.Core.Path.{_≡_, refl, sym, ap, _∙_}
+use mathlib.Core.Path.{_≡_, ap}
 use mathlib.Core.Bool.{Bool, true, false, cond, not, _||_}
 use mathlib.Core.List.{List, [], _∷_, _++_}
 use Prim.Native.Nat.{ℕ, zero, suc, _+_, _*_, _≤_, _<_}
 use native.Mathlib.Omega.{arith}
-use borrow.Author.Tests.{le-leb, ltb-false}
+use borrow.Author.Tests.{le-leb, ltb-false, not-true}
 use lib.Dec.{leb, ltb, eqb}
 use lib.Ieee.{Float}
 use lib.ListN.{length, length-append}
 use Rattle.laws.specs.Front.{atFront, atFrontIfRoom, roomFor}
 use Rattle.laws.specs.Refusals.{firstOf}
-use Rattle.groups.specs.declared.Reading.{Reading}
-use Rattle.groups.specs.declared.Reading.the-variants.{Number, Fault}
-use Rattle.groups.specs.Groups.{numberAt}
+use Rattle.groups.proofs.Onward.{by-number}
 use Rattle.sets.specs.declared.Test.{Test}
 use Rattle.sets.specs.Sets.{bitOf, tests, tooLarge, has}
 use Rattle.sets.proofs.Sets.{bitOf-lt}
 use Rattle.floats.specs.Finite.{allFinite}
 use Rattle.charts.specs.declared.Chart.{Chart}
 use Rattle.charts.specs.Records.{kindWrong, sizeWrong, ownWrong}
-use Rattle.charts.specs.Evaluating.{tooFew, at7, limitsOf, seriesMarks}
+use Rattle.charts.specs.Evaluating.{tooFew, limitsOf, seriesMarks}
 use Rattle.charts.specs.Limits.{measured}
 use Rattle.charts.proofs.Cases.{or-left, or-right}
 use Rattle.charts.proofs.Held.{own}
 use Rattle.reports.specs.declared.Reported.{Reported}
 use Rattle.reports.specs.declared.Reported.the-variants.{Text}
-use Rattle.reports.specs.Flow.{Said, refused, flow, onward, number, before, valuesFrom, countWrong, headFrom, flowOf}
-use Rattle.reports.specs.Text.{decimal, spaced, cLine, lLine, eLine, rLine, Mark, mark, vLine, vLines, marksIn, listed, bothMarks, chartText}
+use Rattle.reports.specs.Flow.{Said, refused, flow, number, before, valuesFrom, countWrong, headFrom, flowOf}
+use Rattle.reports.specs.Text.{decimal, spaced, cLine, lLine, eLine, rLine, mark, vLine, vLines, marksIn, listed, bothMarks, chartText}
 use Rattle.reports.specs.Report.{firstIndex, refusalOf, chartReport, textOn, textOf, reported}
 use Rattle.reports.specs.Steps.{Legal}
 use Rattle.reports.proofs.Digits.{below-power}
@@ -182,15 +180,8 @@ before-fine v (flow c vs) h = h
 
 number-fine : (why : ℕ) (wrong : ℕ → Bool) (s : List ℕ) (at : ℕ) (rest : ℕ → ℕ → Said) → why < 100
     → ((v next : ℕ) → wrong v ≡ false → Fine (rest v next)) → Fine (number why wrong s at rest)
-number-fine why wrong s at rest h f = by (numberAt s at)
-  where
-    by : (r : Reading) → Fine (onward why wrong rest r)
-    by (Fault p) = omega arith
-    by (Number v next) = value (wrong v) refl
-      where
-        value : (b : Bool) → wrong v ≡ b → Fine (cond b (refused why) (rest v next))
-        value true e = h
-        value false e = f v next e
+number-fine why wrong s at rest h f =
+    by-number (refused 12) (refused why) (λ v. not (wrong v)) s at rest Fine (omega arith) h (λ v next e o. f v next (not-true (wrong v) o))
 
 values-fine : (s : List ℕ) (c : Chart) → Legal c → (k at : ℕ) → Fine (valuesFrom s c k at)
 unfolding valuesFrom
@@ -200,7 +191,7 @@ values-fine s c h zero at = by (ltb at (length s))
     by true = omega arith
     by false = h
 values-fine s c h (suc k) at =
-    number-fine 12 _ s at _ (omega arith) (λ v next e. before-fine _ (valuesFrom s c k next) (values-fine s c h k next))
+    number-fine 12 (λ v. false) s at _ (omega arith) (λ v next e. before-fine _ (valuesFrom s c k next) (values-fine s c h k next))
 
 flow-fine : (s : List ℕ) → Fine (flowOf s)
 unfolding flowOf headFrom

@@ -13,7 +13,8 @@ use Rattle.sets.specs.Sets.{tests, testOf, has}
 use Rattle.sets.proofs.Sets.{bit-of-test}
 use Rattle.sets.proofs.Members.{none-tests}
 use Rattle.charts.specs.Evaluating.{numberOf}
-use Rattle.reports.specs.Text.{decimal, line, Mark, mark, vLine, vLines, marksIn, pointMarks, listed}
+use Rattle.reports.specs.Text.{decimal, line, Mark, mark, vLine, vLines, marksIn, pointMarks, listed, bothMarks}
+use Rattle.reports.specs.TextSteps.{wordsFrom}
 use Rattle.reports.proofs.Words.{next-is}
 
 -- ---- the tests by their bits
@@ -57,12 +58,13 @@ module _ (series index m : ℕ) where
 -- ---- their lines
 
 -- the line of a mark has the bit of its test
-pub line-of : (series index t : ℕ) → t < 9 → vLine (mark series index (testOf t)) ≡ line 86 (map decimal (series ∷ index ∷ t ∷ []))
+line-of : (series index t : ℕ) → t < 9 → vLine (mark series index (testOf t)) ≡ line 86 (wordsFrom 3 0 (series ∷ index ∷ t ∷ []))
+unfolding wordsFrom
 line-of series index t h = ap (λ (k : ℕ). line 86 (decimal series ∷ decimal index ∷ decimal k ∷ [])) (bit-of-test t h)
 
 module _ (series index m t : ℕ) where
   pub lines-on : t < 9 → hasBit m t ≡ true
-      → vLines (marksFrom series index m t) ≡ line 86 (map decimal (series ∷ index ∷ t ∷ [])) ++ vLines (marksFrom series index m (t + 1))
+      → vLines (marksFrom series index m t) ≡ line 86 (wordsFrom 3 0 (series ∷ index ∷ t ∷ [])) ++ vLines (marksFrom series index m (t + 1))
   unfolding vLines
   lines-on h e =
       ap vLines (test-on series index m t h e)
@@ -141,3 +143,7 @@ listed-number series index [] = refl
 listed-number series index (m ∷ ms) =
     length-append (pointMarks series index m) (listed series (suc index) ms)
     ∙ ap₂ _+_ (number-in series index m tests) (listed-number series (suc index) ms)
+
+pub both-number : (first : ℕ) (marks others : List ℕ) → length (bothMarks first marks others) ≡ numberOf marks + numberOf others
+both-number first marks others =
+    length-append (listed 0 0 marks) (listed 1 first others) ∙ ap₂ _+_ (listed-number 0 0 marks) (listed-number 1 first others)

@@ -1,5 +1,6 @@
 -- The loop over a flow file's values: those read so far, in front of what the rest says. Assumes nothing.
 use mathlib.Core.Path.{_≡_, refl, sym, ap, ap₂, _∙_}
+use mathlib.Core.Bool.{true}
 use mathlib.Core.List.{List, [], _∷_, _++_}
 use Prim.Native.Nat.{ℕ, suc, _+_, _-_, _≤_, _<_}
 use native.Mathlib.Numerals.{add-one}
@@ -11,7 +12,8 @@ use lib.Seq.{take-suc-set}
 use Rattle.groups.specs.declared.Reading.the-variants.{Number, Fault}
 use Rattle.groups.specs.Groups.{numberAt}
 use Rattle.charts.specs.declared.Chart.{Chart}
-use Rattle.reports.specs.Flow.{Said, refused, flow, onward, before, valuesFrom}
+use Rattle.reports.specs.Flow.{Said, refused, flow, before, valuesFrom}
+use Rattle.groups.proofs.Onward.{no-number, in-place}
 
 -- values in front of what the rest says
 unfoldable pub ahead : List Float → Said → Said
@@ -56,7 +58,7 @@ module _ (s : List ℕ) (c : Chart) (n from : ℕ) (was room : List Float) (at i
     unfolding valuesFrom
     reads-fault p e =
         r .goes
-        ∙ ap (ahead (take i room)) (ap (λ (k : ℕ). valuesFrom s c k at) rest-is ∙ ap (onward 12 _ _) e)
+        ∙ ap (ahead (take i room)) (ap (λ (k : ℕ). valuesFrom s c k at) rest-is ∙ no-number (refused 12) (refused 12) (λ v. true) s at _ p e)
         ∙ ahead-refused (take i room) 12
 
     pub reads-goes-on : (v next : ℕ) → numberAt s at ≡ Number v next → n ≤ length was
@@ -67,7 +69,7 @@ module _ (s : List ℕ) (c : Chart) (n from : ℕ) (was room : List Float) (at i
       same = length-set room i (ofBits binary64 v) ∙ r .same;
       goes =
           r .goes
-          ∙ ap (ahead (take i room)) (ap (λ (k : ℕ). valuesFrom s c k at) rest-is ∙ ap (onward 12 _ _) e)
+          ∙ ap (ahead (take i room)) (ap (λ (k : ℕ). valuesFrom s c k at) rest-is ∙ in-place (refused 12) (refused 12) (λ v. true) s at _ v next e refl)
           ∙ ahead-one-more (take i room) (ofBits binary64 v) (valuesFrom s c (n - (i + 1)) next)
           ∙ ap (λ (l : List Float). ahead l (valuesFrom s c (n - (i + 1)) next))
           (sym (ap (λ (k : ℕ). take k (set room i (ofBits binary64 v))) (add-one i)

@@ -1,18 +1,15 @@
 -- The words of a line, one by one. Assumes nothing.
 use mathlib.Core.Path.{_≡_, sym, ap, _∙_}
 use mathlib.Core.Bool.{Bool, true, false}
-use mathlib.Core.List.{List, [], _∷_, _++_, map}
-use Prim.Native.Nat.{ℕ, suc, _+_, _≤_, _<_}
+use mathlib.Core.List.{List, [], _∷_, _++_}
+use Prim.Native.Nat.{ℕ, _+_, _≤_, _<_}
 use native.Mathlib.Numerals.{add-one}
-use native.Mathlib.Omega.{arith}
-use lib.ListN.{length, getD, drop, set, length-append, drop-of-length-le}
-use lib.Seq.{drop-cons, getD-drop}
-use Rattle.laws.specs.Front.{atFront}
-use Rattle.laws.proofs.Filling.{filling-goes-on, filling-ends}
+use lib.Dec.{leb}
+use lib.ListN.{length, getD, drop, drop-of-length-le}
+use lib.Seq.{drop-cons}
 use Rattle.reports.specs.Text.{decimal, digits, spaced}
-use Rattle.reports.specs.TextSteps.{wordOf}
+use Rattle.reports.specs.TextSteps.{wordOf, wordsFrom}
 use Rattle.reports.proofs.Digits.{decimal-digits}
-use Rattle.reports.proofs.Pouring.{Pouring, pouring-count, pouring-length}
 
 -- ---- a word
 
@@ -29,35 +26,18 @@ next-is xs i z h = rw (add-one i) (drop-cons xs i z h)
 
 -- ---- the words of a line
 
--- what is to come when the first i words are written
-abbrev pub wordsFrom : Bool → List ℕ → ℕ → List ℕ
-wordsFrom hex xs i = spaced (map (wordOf hex) (drop i xs))
+module _ (decimals : ℕ) (xs : List ℕ) (i : ℕ) where
+  -- what is to come when the first i words stand
+  abbrev pub wordsLeft : List ℕ
+  wordsLeft = spaced (wordsFrom decimals i (drop i xs))
 
-module _ (hex : Bool) (xs : List ℕ) (i : ℕ) where
-  pub words-next : i < length xs → wordsFrom hex xs i ≡ ((32 ∷ []) ++ wordOf hex (getD xs i 0)) ++ wordsFrom hex xs (i + 1)
-  unfolding spaced
-  words-next h = ap (λ (l : List ℕ). spaced (map (wordOf hex) l)) (next-is xs i 0 h)
+pub words-next : (decimals : ℕ) (xs : List ℕ) (i : ℕ) → i < length xs
+    → wordsLeft decimals xs i ≡ (32 ∷ []) ++ (wordOf (leb decimals i) (getD xs i 0) ++ wordsLeft decimals xs (i + 1))
+unfolding spaced wordsFrom
+words-next decimals xs i h =
+    ap (λ (l : List ℕ). spaced (wordsFrom decimals i l)) (next-is xs i 0 h)
+    ∙ ap (λ (k : ℕ). 32 ∷ (wordOf (leb decimals i) (getD xs i 0) ++ spaced (wordsFrom decimals k (drop (i + 1) xs)))) (sym (add-one i))
 
-  pub words-last : length xs ≤ i → wordsFrom hex xs i ≡ 10 ∷ []
-  unfolding spaced
-  words-last h = ap (λ (l : List ℕ). spaced (map (wordOf hex) l)) (drop-of-length-le xs h)
-
-  pub words-length : i < length xs
-      → length (wordsFrom hex xs i) ≡ suc (length (wordOf hex (getD xs i 0))) + length (wordsFrom hex xs (i + 1))
-  words-length h = ap length (words-next h) ∙ length-append (32 ∷ wordOf hex (getD xs i 0)) (wordsFrom hex xs (i + 1))
-
-  -- the line's end
-  module _ {whole old out : List ℕ} {at : ℕ} (p : Pouring whole (wordsFrom hex xs i) old out at) (h : length xs ≤ i) where
-    pub end-count : at + 1 ≡ length whole
-    end-count = omega (arith, pouring-count p, ap length (words-last h))
-
-    pub end-room : at < length out
-    end-room = omega (arith, end-count, pouring-length p, p .filling .room)
-
-    pub end-fills : set out at 10 ≡ atFront whole old
-    end-fills =
-        let last : 10 ≡ getD whole at 0 =
-        sym (ap (λ (l : List ℕ). getD l 0 0) (p .rest ∙ words-last h)) ∙ getD-drop at whole 0 0 ∙ ap (λ (k : ℕ). getD whole k 0) (omega arith) in
-        filling-ends whole old (set out at 10) (at + 1)
-        (filling-goes-on whole old out at (p .filling) 0 10 (omega (arith, end-count)) last)
-        (omega (arith, end-count))
+pub words-last : (decimals : ℕ) (xs : List ℕ) (i : ℕ) → length xs ≤ i → wordsLeft decimals xs i ≡ 10 ∷ []
+unfolding spaced wordsFrom
+words-last decimals xs i h = ap (λ (l : List ℕ). spaced (wordsFrom decimals i l)) (drop-of-length-le xs h)

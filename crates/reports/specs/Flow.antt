@@ -1,15 +1,14 @@
 -- The flow file: what any bytes say, a chart and its values or the number of a refusal (01, 'The report program', first paragraph).
 -- Definitions only.
-use mathlib.Core.Bool.{Bool, false, cond, _||_}
+use mathlib.Core.Bool.{Bool, false, not, cond, _||_}
 use mathlib.Core.List.{List, [], _∷_}
 use Prim.Native.Nat.{ℕ, zero, suc, _*_}
 use lib.Dec.{ltb}
 use lib.Ieee.{Float, binary64, ofBits}
 use lib.ListN.{length}
-use Rattle.groups.specs.declared.Reading.{Reading}
-use Rattle.groups.specs.declared.Reading.the-variants.{Number, Fault}
-use Rattle.groups.specs.Groups.{numberAt}
+use Rattle.groups.specs.Groups as groups
 use Rattle.sets.specs.Sets.{tooLarge}
+use Rattle.rules.specs.Marking.{most}
 use Rattle.charts.specs.declared.Chart.{Chart}
 use Rattle.charts.specs.Records.{kindWrong, sizeWrong}
 
@@ -17,15 +16,9 @@ pub data Said : Type 0 where
   refused : ℕ → Said
   flow : Chart → List Float → Said
 
--- ---- a number, "by form then value"
-
--- By form 12. By value the refusal that is given; else what the rest says, told the value and the place past it.
-abbrev pub onward : ℕ → (ℕ → Bool) → (ℕ → ℕ → Said) → Reading → Said
-onward why wrong rest (Fault p) = refused 12
-onward why wrong rest (Number v next) = cond (wrong v) (refused why) (rest v next)
-
+-- a number "by form then value": by form 12, by value the refusal that is given
 abbrev pub number : ℕ → (ℕ → Bool) → List ℕ → ℕ → (ℕ → ℕ → Said) → Said
-number why wrong s at rest = onward why wrong rest (numberAt s at)
+number why wrong s at rest = groups.number (refused 12) (refused why) (λ v. not (wrong v)) s at rest
 
 -- ---- the values, "each its f64 bits as one number"
 
@@ -43,7 +36,7 @@ valuesFrom s c (suc k) at = number 12 (λ v. false) s at (λ v next. before (ofB
 
 -- "count 5 if over 4,096 or count times size is over 2,048"
 abbrev pub countWrong : ℕ → ℕ → Bool
-countWrong size count = ltb 4096 count || ltb 2048 (count * size)
+countWrong size count = ltb most count || ltb 2048 (count * size)
 
 -- "kind, size, set, count, then count times size values": "kind 12, size 1, set 4", count 5
 unfoldable pub headFrom : List ℕ → ℕ → Said

@@ -2,6 +2,7 @@
 use charts::Changed;
 use charts::Chart;
 use groups::Reading;
+use rules::MOST;
 use sets::RuleSet;
 ghost use mathlib.Core.Path.{_≡_};
 ghost use mathlib.Core.Bool.{false};
@@ -44,7 +45,7 @@ fn count_wrong(size: u64, count: u64) -> bool
     requires { ⌜ size ≤ 25 ⌝ }
     ensures { λ r. ⌜ r ≡ countWrong size count ⌝ }
 {
-    if 4096 < count {
+    if (MOST as u64) < count {
         return true;
     }
     2048 < count * size

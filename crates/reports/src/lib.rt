@@ -7,16 +7,17 @@ use charts::Evaluated;
 use charts::Evaluation;
 use flow::Flow;
 ghost use mathlib.Core.Path.{_≡_};
-ghost use mathlib.Core.Bool.{true};
 ghost use Prim.Native.Nat.{_≤_};
 ghost use lib.ListN.{length};
 ghost use Rattle.laws.specs.Front.{atFrontIfRoom, roomFor};
-ghost use Rattle.rules.specs.Finite.{finiteLimits};
 ghost use Rattle.charts.specs.Series.{pointsIn};
-ghost use Rattle.reports.specs.Text.{bothMarks, chartText, rLine};
+ghost use Rattle.reports.specs.Text.{rLine};
 ghost use Rattle.reports.specs.Report.{firstIndex, chartReport, textOf, reported};
 ghost use Rattle.reports.specs.Steps.{size, Legal};
-ghost use Rattle.reports.specs.TextSteps.{Lengths};
+ghost use Rattle.reports.specs.TextSteps.{Tells, textBy};
+
+/// No report is longer: a room of so many bytes holds any.
+pub const LONGEST: usize = 405_704;
 
 /// What writing a report comes to.
 pub enum Reported {
@@ -43,10 +44,11 @@ fn refuse(why: u64, out: &mut [u8]) -> Reported
     ensures answer { λ r. ⌜ reported r ≡ roomFor (rLine why) (length (now (out .entry))) ⌝ }
     ensures room { λ r. ⌜ now (out .exit) ≡ atFrontIfRoom (rLine why) (now (out .entry)) ⌝ }
 {
-    if out.len() < text::refusal_len(why) {
+    let n = text::put_refusal(out, false, why);
+    if out.len() < n {
         return Reported::TooShort;
     }
-    Reported::Text(text::put_refusal(out, why))
+    Reported::Text(text::put_refusal(out, true, why))
 }
 
 // The index of the dispersion series' first point.
@@ -72,38 +74,18 @@ fn dispersion_points(chart: Chart) -> usize
 
 // Writes the text of an evaluated chart, told the marks of both series.
 fn tell(chart: Chart, e: Evaluation, marks: &[u16], others: &[u16], out: &mut [u8]) -> Reported
-    requires limits { ⌜ (finiteLimits (e .main) ≡ true) × (finiteLimits (e .dispersion) ≡ true) ⌝ }
-    requires marks { ⌜ Lengths (firstIndex chart) (now marks) (now others) ⌝ }
+    requires { ⌜ Tells e (firstIndex chart) (now marks) (now others) ⌝ }
     ensures answer { λ r. ⌜ reported r
-        ≡ roomFor (chartText (chart .kind) (chart .size) (chart .set .mask) (e .main) (e .dispersion)
-        (bothMarks (firstIndex chart) (now (marks .entry)) (now (others .entry)))) (length (now (out .entry))) ⌝ }
+        ≡ roomFor (textBy chart e (firstIndex chart) (now (marks .entry)) (now (others .entry))) (length (now (out .entry))) ⌝ }
     ensures room { λ r. ⌜ now (out .exit)
-        ≡ atFrontIfRoom (chartText (chart .kind) (chart .size) (chart .set .mask) (e .main) (e .dispersion)
-        (bothMarks (firstIndex chart) (now (marks .entry)) (now (others .entry)))) (now (out .entry)) ⌝ }
+        ≡ atFrontIfRoom (textBy chart e (firstIndex chart) (now (marks .entry)) (now (others .entry))) (now (out .entry)) ⌝ }
 {
-    let kind = chart.kind;
-    let size = chart.size as u64;
-    let set = chart.set.mask;
     let first = first_index(chart);
-    let extent = text::measure_chart(kind, size, set, first, marks, others);
-    if out.len() < extent.len {
+    let n = text::put_chart(out, false, chart, e, first, marks, others);
+    if out.len() < n {
         return Reported::TooShort;
     }
-    let main = e.main;
-    let dispersion = e.dispersion;
-    let n = text::put_chart(
-        out,
-        kind,
-        size,
-        set,
-        main,
-        dispersion,
-        first,
-        marks,
-        others,
-        extent.lines,
-    );
-    Reported::Text(n)
+    Reported::Text(text::put_chart(out, true, chart, e, first, marks, others))
 }
 
 // Writes the report of a chart and its values.

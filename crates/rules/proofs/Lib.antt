@@ -9,6 +9,6 @@ mod Marks
 pub mod Blocks
 mod Single
 pub mod ZoneLines
-pub mod Accepted
 pub mod Meaning
+pub mod Accepted
 pub mod Answers

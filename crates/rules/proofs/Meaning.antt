@@ -13,9 +13,9 @@ use Rattle.laws.proofs.Lists.{take-tabulate, same-tabulate, length-tabulate, ge
 use Rattle.sets.specs.declared.Test.{Test}
 use Rattle.sets.specs.Sets.{has, setOf}
 use Rattle.sets.proofs.Sets.{has-setOf, setOf-lt, and-setOf}
-use Rattle.rules.specs.declared.Limits.{Limits}
 use Rattle.rules.specs.declared.Lines.{Lines}
 use Rattle.rules.specs.Lines.{linesOf}
+use Rattle.rules.specs.Terms.{Terms}
 use Rattle.rules.specs.Marking.{newestFirst, stands, marksAt, marksOf}
 
 module _ (l : Lines) (set : ℕ) (values : List Float) (i : ℕ) where
@@ -39,14 +39,14 @@ module _ (l : Lines) (set : ℕ) (values : List Float) (i : ℕ) where
 
 -- ---- the marks of a series, one for each value
 
-module _ (limits : Limits) (set : ℕ) (values : List Float) where
-  pub length-marks : length (marksOf limits set values) ≡ length values
+module _ (terms : Terms) (set : ℕ) (values : List Float) where
+  pub length-marks : length (marksOf terms set values) ≡ length values
   unfolding marksOf
-  length-marks = length-tabulate (marksAt (linesOf limits) set values) (length values)
+  length-marks = length-tabulate (marksAt (linesOf (terms .limits)) set values) (length values)
 
-  pub marks-at : (i : ℕ) → i < length values → getD (marksOf limits set values) i 0 ≡ marksAt (linesOf limits) set values i
+  pub marks-at : (i : ℕ) → i < length values → getD (marksOf terms set values) i 0 ≡ marksAt (linesOf (terms .limits)) set values i
   unfolding marksOf
-  marks-at i h = getD-tabulate (marksAt (linesOf limits) set values) (length values) i 0 h
+  marks-at i h = getD-tabulate (marksAt (linesOf (terms .limits)) set values) (length values) i 0 h
 
   newest-take : (n k : ℕ) → k ≤ n → newestFirst (take n values) k ≡ newestFirst values k
   unfolding newestFirst
@@ -54,10 +54,10 @@ module _ (limits : Limits) (set : ℕ) (values : List Float) where
   newest-take n (suc k) h = ap₂ _∷_ (getD-take n values k nan h) (newest-take n k (omega arith))
 
   -- The marks of a prefix are the prefix of the marks.
-  pub marks-of-prefix : (n : ℕ) → n ≤ length values → marksOf limits set (take n values) ≡ take n (marksOf limits set values)
+  pub marks-of-prefix : (n : ℕ) → n ≤ length values → marksOf terms set (take n values) ≡ take n (marksOf terms set values)
   unfolding marksOf marksAt
   marks-of-prefix n h =
-      let l = linesOf limits in
+      let l = linesOf (terms .limits) in
       ap (tabulate (marksAt l set (take n values))) (length-take-le n values h)
       ∙ same-tabulate (marksAt l set (take n values)) (marksAt l set values) n
       (λ k q. ap (λ (past : List Float). setOf (λ t. has set t && stands l past t)) (newest-take n (suc k) q))

@@ -2,6 +2,7 @@
 pub mod Lines
 pub mod Tests
 pub mod Finite
+pub mod Terms
 pub mod Marking
 pub mod Columns
 pub mod Codes

@@ -1,7 +1,7 @@
 -- What a mark means, and what marking answers and leaves in the lent slice (01, 'The nine tests', 'Numbers a call may give back').
 -- Definitions only.
 use mathlib.Core.Bool.{Bool, not, _&&_, cond}
-use mathlib.Core.List.{List, [], _∷_}
+use mathlib.Core.List.{List, [], _∷_, _++_}
 use Prim.Native.Nat.{ℕ, zero, suc}
 use lib.Dec.{leb, ltb, eqb}
 use lib.Ieee.{Float, nan}
@@ -10,11 +10,13 @@ use Rattle.laws.specs.Refusals.{firstOf}
 use Rattle.laws.specs.Lists.{tabulate}
 use Rattle.laws.specs.Front.{atFront}
 use Rattle.sets.specs.declared.Test.{Test}
-use Rattle.sets.specs.Sets.{has, setOf}
-use Rattle.rules.specs.declared.Limits.{Limits}
+use Rattle.sets.specs.Sets.{has, setOf, tooLarge}
 use Rattle.rules.specs.declared.Lines.{Lines}
 use Rattle.rules.specs.declared.Marked.{Marked}
-use Rattle.rules.specs.declared.Marked.the-variants.{Done, TooMany, SetTooLarge, NotFinite, TooShort}
+use Rattle.rules.specs.declared.Marked.the-variants.{Done, Refused}
+use Rattle.rules.specs.declared.Refusal.{Refusal}
+use Rattle.rules.specs.declared.Refusal.the-variants.{TooMany, SetTooLarge, NotFinite, TooShort}
+use Rattle.rules.specs.Terms.{Terms}
 use Rattle.rules.specs.Lines.{linesOf}
 use Rattle.rules.specs.Tests.{window, shows}
 use Rattle.floats.specs.Finite.{allFinite}
@@ -39,31 +41,43 @@ marksAt l set values i = setOf (λ t. has set t && stands l (newestFirst values 
 abbrev pub marksBy : Lines → ℕ → List Float → List ℕ
 marksBy l set values = tabulate (marksAt l set values) (length values)
 
-unfoldable pub marksOf : Limits → ℕ → List Float → List ℕ
-marksOf limits set values = marksBy (linesOf limits) set values
+unfoldable pub marksOf : Terms → ℕ → List Float → List ℕ
+marksOf terms set values = marksBy (linesOf (terms .limits)) set values
 
 -- ---- what marking answers
 
--- 01's number of each answer
+-- the most values of a series
+abbrev pub most : ℕ
+most = 4096
+
+-- 01's number of each refusal, and of each answer
+abbrev pub number : Refusal → ℕ
+number TooMany = 5
+number SetTooLarge = 4
+number NotFinite = 3
+number TooShort = 6
+
 abbrev pub numbered : Marked → ℕ
 numbered Done = 0
-numbered TooMany = 5
-numbered SetTooLarge = 4
-numbered NotFinite = 3
-numbered TooShort = 6
+numbered (Refused why) = number why
 
--- Marking: 5, 4, 3 for limits, 3 for values, 6. `room` is how many entries the lent slice has.
-unfoldable pub answerOf : Limits → ℕ → List Float → ℕ → ℕ
-answerOf limits set values room =
-    firstOf
-    ((ltb 4096 (length values), 5)
-    ∷ (ltb 511 set, 4)
-    ∷ (not (finiteLimits limits), 3)
+-- What marking, checking and writing refuse first: 5, 4, 3 for limits, 3 for values.
+unfoldable pub ahead : Terms → ℕ → List Float → List (Bool × ℕ)
+ahead terms set values =
+    (ltb most (length values), 5)
+    ∷ (tooLarge set, 4)
+    ∷ (not (finiteLimits (terms .limits)), 3)
     ∷ (not (allFinite values), 3)
-    ∷ (ltb room (length values), 6)
-    ∷ [])
-    0
+    ∷ []
+
+-- the number of the first that applies, or 0
+abbrev pub refusal : Terms → ℕ → List Float → ℕ
+refusal terms set values = firstOf (ahead terms set values) 0
+
+-- Marking: these, then 6. `room` is how many entries the lent slice has.
+unfoldable pub answerOf : Terms → ℕ → List Float → ℕ → ℕ
+answerOf terms set values room = firstOf (ahead terms set values ++ ((ltb room (length values), 6) ∷ [])) 0
 
 -- the slice afterwards: the marks at its front where nothing was refused, else as it came
-unfoldable pub marksAfter : Limits → ℕ → List Float → List ℕ → List ℕ
-marksAfter limits set values old = cond (eqb (answerOf limits set values (length old)) 0) (atFront (marksOf limits set values) old) old
+unfoldable pub marksAfter : Terms → ℕ → List Float → List ℕ → List ℕ
+marksAfter terms set values old = cond (eqb (answerOf terms set values (length old)) 0) (atFront (marksOf terms set values) old) old

@@ -8,7 +8,11 @@ ghost use lib.ListN.{length};
 ghost use Rattle.rules.specs.Lines.{widthsOf, linesOf};
 ghost use Rattle.rules.specs.Tests.{window};
 ghost use Rattle.rules.specs.Finite.{finiteLimits};
-ghost use Rattle.rules.specs.Marking.{numbered, answerOf, marksAfter};
+ghost use Rattle.rules.specs.Terms.{under};
+ghost use Rattle.rules.specs.Marking.{number, numbered, refusal, answerOf, marksAfter};
+
+/// The most values of a series.
+pub const MOST: usize = 4096;
 
 /// Control limits: the upper limit, the centre line, the lower limit.
 pub struct Limits {
@@ -48,18 +52,38 @@ pub fn window(t: Test) -> usize
     WINDOWS[t.bit() as usize]
 }
 
-/// What marking answers.
-pub enum Marked {
-    /// The marks stand at the front of the slice (0).
-    Done,
+/// Why a series is not marked, checked or written.
+pub enum Refusal {
     /// There are more than 4,096 values (5).
     TooMany,
     /// The set's mask is over 511 (4).
     SetTooLarge,
     /// A limit or a value is not finite (3).
     NotFinite,
-    /// The slice is shorter than the series (6).
+    /// The lent room is too short for what is to be written (6).
     TooShort,
+}
+
+/// What marking answers.
+pub enum Marked {
+    /// The marks stand at the front of the slice (0).
+    Done,
+    /// Nothing was written.
+    Refused(Refusal),
+}
+
+impl Refusal {
+    /// 01's number of the refusal.
+    pub fn number(self) -> u8
+        ensures { λ r. ⌜ r ≡ number self ⌝ }
+    {
+        match self {
+            Refusal::TooMany => 5,
+            Refusal::SetTooLarge => 4,
+            Refusal::NotFinite => 3,
+            Refusal::TooShort => 6,
+        }
+    }
 }
 
 impl Marked {
@@ -69,10 +93,7 @@ impl Marked {
     {
         match self {
             Marked::Done => 0,
-            Marked::TooMany => 5,
-            Marked::SetTooLarge => 4,
-            Marked::NotFinite => 3,
-            Marked::TooShort => 6,
+            Marked::Refused(why) => why.number(),
         }
     }
 }
@@ -116,24 +137,21 @@ fn lines_of(l: Limits) -> Lines
     }
 }
 
-// What marking answers, before anything is written: the first refusal that applies, or `Done`.
-fn answer(values: &[f64], limits: Limits, set: RuleSet, room: usize) -> Marked
-    ensures { λ r. ⌜ numbered r ≡ answerOf limits (set .mask) (now (values .entry)) room ⌝ }
+// What is refused before there is a room to look at: the first refusal that applies, or `Done`.
+fn ahead(values: &[f64], limits: Limits, set: RuleSet) -> Marked
+    ensures { λ r. ⌜ numbered r ≡ refusal (under limits) (set .mask) (now (values .entry)) ⌝ }
 {
-    if 4096 < values.len() {
-        return Marked::TooMany;
+    if MOST < values.len() {
+        return Marked::Refused(Refusal::TooMany);
     }
-    if 511 < set.mask {
-        return Marked::SetTooLarge;
+    if RuleSet::ALL < set.mask {
+        return Marked::Refused(Refusal::SetTooLarge);
     }
     if !finite_limits(limits) {
-        return Marked::NotFinite;
+        return Marked::Refused(Refusal::NotFinite);
     }
     if !floats::all_finite(values) {
-        return Marked::NotFinite;
-    }
-    if room < values.len() {
-        return Marked::TooShort;
+        return Marked::Refused(Refusal::NotFinite);
     }
     Marked::Done
 }
@@ -160,13 +178,16 @@ fn answer(values: &[f64], limits: Limits, set: RuleSet, room: usize) -> Marked
 /// rules::mark(&[26.5; 9], limits, RuleSet::nelson(), &mut marks);   // 0, 0, 0, 0, 32, 32, 32, 160, 162
 /// ```
 pub fn mark(values: &[f64], limits: Limits, set: RuleSet, marks: &mut [u16]) -> Marked
-    ensures answer { λ r. ⌜ numbered r ≡ answerOf limits (set .mask) (now (values .entry)) (length (now (marks .entry))) ⌝ }
-    ensures marks { λ r. ⌜ now (marks .exit) ≡ marksAfter limits (set .mask) (now (values .entry)) (now (marks .entry)) ⌝ }
+    ensures answer { λ r. ⌜ numbered r ≡ answerOf (under limits) (set .mask) (now (values .entry)) (length (now (marks .entry))) ⌝ }
+    ensures marks { λ r. ⌜ now (marks .exit) ≡ marksAfter (under limits) (set .mask) (now (values .entry)) (now (marks .entry)) ⌝ }
 {
-    let answered = answer(values, limits, set, marks.len());
-    if answered.number() != 0 {
-        return answered;
+    let refused = ahead(values, limits, set);
+    if refused.number() != 0 {
+        return refused;
+    }
+    if marks.len() < values.len() {
+        return Marked::Refused(Refusal::TooShort);
     }
     codes::fill(lines_of(limits), set.mask, values, marks);
-    answered
+    Marked::Done
 }

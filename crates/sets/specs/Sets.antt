@@ -45,8 +45,11 @@ unfoldable pub testAt : ℕ → Found
 testAt bit = cond (ltb bit (length tests)) (finding.Test (testOf bit)) finding.Nothing
 
 -- "A rule set is a number 0 to 511": that of all nine tests is the largest
+abbrev pub largest : ℕ
+largest = 511
+
 abbrev pub tooLarge : ℕ → Bool
-tooLarge set = ltb 511 set
+tooLarge set = ltb largest set
 
 -- the set of the number `set` has the test t
 unfoldable pub has : ℕ → Test → Bool

@@ -19,7 +19,7 @@ use Rattle.groups.proofs.Numbers.{Bytes, groups-bytes}
 use Rattle.sets.specs.declared.Test.{Test}
 use Rattle.sets.specs.Sets.{has}
 use Rattle.sets.proofs.Sets.{known-by-tests}
-use Rattle.rules.specs.declared.Limits.{Limits}
+use Rattle.rules.specs.Terms.{Terms}
 use Rattle.rules.specs.Lines.{linesOf}
 use Rattle.rules.specs.Marking.{newestFirst, stands, marksAt, marksOf}
 use Rattle.rules.proofs.Meaning.{marks-inside, length-marks, marks-at}
@@ -74,33 +74,33 @@ accepted-said set right r = (
 
 -- ---- the right marks of a series
 
-module _ (limits : Limits) (set : ℕ) (values : List Float) (valid : set ≤ 511) where
-  pub right-inside : Inside set (marksOf limits set values)
+module _ (terms : Terms) (set : ℕ) (values : List Float) (valid : set ≤ 511) where
+  pub right-inside : Inside set (marksOf terms set values)
   right-inside i = by (ltb i (length values)) refl
     where
       by : (b : Bool) → ltb i (length values) ≡ b
-          → bitAnd (getD (marksOf limits set values) i 0) set
-          ≡ getD (marksOf limits set values) i 0
+          → bitAnd (getD (marksOf terms set values) i 0) set
+          ≡ getD (marksOf terms set values) i 0
       by true b =
-          let at = marks-at limits set values i (ltb-true i (length values) b) in
-          rw at (marks-inside (linesOf limits) set values i)
+          let at = marks-at terms set values i (ltb-true i (length values) b) in
+          rw at (marks-inside (linesOf (terms .limits)) set values i)
       by false b =
-          let past : getD (marksOf limits set values) i 0 ≡ 0 =
-          List·getD-eq-default (marksOf limits set values) 0 (omega (arith, length-marks limits set values, ltb-false i (length values) b)) in
+          let past : getD (marksOf terms set values) i 0 ≡ 0 =
+          List·getD-eq-default (marksOf terms set values) 0 (omega (arith, length-marks terms set values, ltb-false i (length values) b)) in
           rw past (and-zero-l set)
 
   -- marks inside the set that are right test by test are the right ones
   pub right-by-tests : (ms : List ℕ) → length ms ≡ length values → Inside set ms
-      → ((i : ℕ) (t : Test) → i < length values → has (getD ms i 0) t ≡ (has set t && stands (linesOf limits) (newestFirst values (suc i)) t))
-      → ms ≡ marksOf limits set values
+      → ((i : ℕ) (t : Test) → i < length values → has (getD ms i 0) t ≡ (has set t && stands (linesOf (terms .limits)) (newestFirst values (suc i)) t))
+      → ms ≡ marksOf terms set values
   unfolding marksAt
   right-by-tests ms count inside each =
-      ext-getD 0 ms (marksOf limits set values) (count ∙ sym (length-marks limits set values))
+      ext-getD 0 ms (marksOf terms set values) (count ∙ sym (length-marks terms set values))
       (λ i h.
       let k : i < length values = omega (arith, count) in
-      known-by-tests (getD ms i 0) (λ t. has set t && stands (linesOf limits) (newestFirst values (suc i)) t)
+      known-by-tests (getD ms i 0) (λ t. has set t && stands (linesOf (terms .limits)) (newestFirst values (suc i)) t)
       (omega (arith, and-le-r (getD ms i 0) set, inside i)) (λ t. each i t k)
-      ∙ sym (marks-at limits set values i k))
+      ∙ sym (marks-at terms set values i k))
 
 -- ---- a sheet is bytes
 

@@ -19,18 +19,18 @@ use borrow.Author.Tests.{le-leb, lt-leb}
 use Rattle.laws.specs.Front.{atFront}
 use Rattle.groups.proofs.Numbers.{Bytes}
 use Rattle.sets.specs.declared.Test.{Test}
-use Rattle.sets.specs.Sets.{has}
-use Rattle.rules.specs.declared.Limits.{Limits}
+use Rattle.sets.specs.Sets.{has, largest}
+use Rattle.rules.specs.Terms.{Terms, under}
 use Rattle.rules.specs.Lines.{linesOf}
 use Rattle.floats.specs.Finite.{allFinite}
 use Rattle.rules.specs.Finite.{finiteLimits}
-use Rattle.rules.specs.Marking.{newestFirst, stands, marksOf}
+use Rattle.rules.specs.Marking.{newestFirst, stands, marksOf, most, refusal}
 use Rattle.rules.proofs.Accepted.{accepts}
 use Rattle.rules.proofs.Meaning.{marked, length-marks, marks-at}
 use Rattle.sheets.specs.declared.Checked.the-variants.{Accepted}
 use Rattle.sheets.specs.declared.Written.the-variants.{Sheet}
 use Rattle.sheets.specs.Said.{sheet, said}
-use Rattle.sheets.specs.Answers.{Verdict, checked, refusal, checkOf, seriesSheet, writeOf, roomAfter}
+use Rattle.sheets.specs.Answers.{Verdict, checked, checkOf, seriesSheet, writeOf, roomAfter}
 use Rattle.sheets.proofs.Sheets.{IsSheet, said-written, said-sound, well-formed}
 use Rattle.sheets.proofs.Judging.{check-done, write-done, room-done}
 use Rattle.sheets.proofs.Answers.{checked-one, written-one}
@@ -46,80 +46,79 @@ accepted = (0, 0, 0, 0)
 
 -- What (a) asks of a sheet. It is well formed where it is the sheet of a set and of marks inside it, both within 01's bounds: no reader is
 -- needed to say so.
-pub record Right (limits : Limits) (set : ℕ) (values : List Float) (bytes : List ℕ) : Type 0 where
+pub record Right (terms : Terms) (set : ℕ) (values : List Float) (bytes : List ℕ) : Type 0 where
   pub named : ℕ
   pub marks : List ℕ
-  pub well-formed : IsSheet 4096 511 bytes 0 named marks
+  pub well-formed : IsSheet most largest bytes 0 named marks
   pub that-count : length marks ≡ length values
   pub that-set : named ≡ set
   pub each-mark : (i : ℕ) (t : Test) → i < length values
-      → has (getD marks i 0) t ≡ (has set t && stands (linesOf limits) (newestFirst values (suc i)) t)
+      → has (getD marks i 0) t ≡ (has set t && stands (linesOf (terms .limits)) (newestFirst values (suc i)) t)
 
-module _ (limits : Limits) (set : ℕ) (values : List Float)
-    (few : length values ≤ 4096) (valid : set ≤ 511) (sound : finiteLimits limits ≡ true) (finite : allFinite values ≡ true) where
+module _ (terms : Terms) (set : ℕ) (values : List Float)
+    (few : length values ≤ most) (valid : set ≤ largest) (sound : finiteLimits (terms .limits) ≡ true) (finite : allFinite values ≡ true) where
   right : List ℕ
-  right = marksOf limits set values
+  right = marksOf terms set values
 
-  none-refused : refusal limits set values ≡ 0
+  none-refused : refusal terms set values ≡ 0
   none-refused =
-      accepts limits set values (length values)
-      (record { few = few; small = valid; sound = sound; finite = finite; wide = omega arith })
+      accepts terms set values (record { few = few; small = valid; sound = sound; finite = finite })
 
-  accepted-is : (bytes : List ℕ) → (checkOf limits set values bytes ≡ accepted) ↔ (said bytes ≡ sheet set right)
+  accepted-is : (bytes : List ℕ) → (checkOf terms set values bytes ≡ accepted) ↔ (said bytes ≡ sheet set right)
   unfolding right
   accepted-is bytes =
-      let judged-is = check-done limits set values none-refused bytes in
-      let both = accepted-said set (marksOf limits set values) (said bytes) in
+      let judged-is = check-done terms set values none-refused bytes in
+      let both = accepted-said set (marksOf terms set values) (said bytes) in
       ((λ e. both .0 (judged-is ∙ e)), (λ e. sym judged-is ∙ both .1 e))
 
   -- (a)
-  pub accepted-exactly : (bytes : List ℕ) → Bytes bytes → (checkOf limits set values bytes ≡ accepted) ↔ Right limits set values bytes
+  pub accepted-exactly : (bytes : List ℕ) → Bytes bytes → (checkOf terms set values bytes ≡ accepted) ↔ Right terms set values bytes
   unfolding right
   accepted-exactly bytes is-bytes = (
     (λ e. record {
       named = set;
-      marks = marksOf limits set values;
-      well-formed = said-sound 4096 511 bytes 0 set (marksOf limits set values) is-bytes (accepted-is bytes .0 e);
-      that-count = length-marks limits set values;
+      marks = marksOf terms set values;
+      well-formed = said-sound most largest bytes 0 set (marksOf terms set values) is-bytes (accepted-is bytes .0 e);
+      that-count = length-marks terms set values;
       that-set = refl;
-      each-mark = λ i t h. ap (λ (m : ℕ). has m t) (marks-at limits set values i h) ∙ marked (linesOf limits) set values i t;
+      each-mark = λ i t h. ap (λ (m : ℕ). has m t) (marks-at terms set values i h) ∙ marked (linesOf (terms .limits)) set values i t;
     }),
     (λ r.
-        let says = well-formed 4096 511 (omega arith) (omega arith) bytes is-bytes (r .named) (r .marks) .1 (r .well-formed) in
+        let says = well-formed most largest (omega arith) (omega arith) bytes is-bytes (r .named) (r .marks) .1 (r .well-formed) in
         let its : said bytes ≡ sheet set (r .marks) = says ∙ ap (λ (t : ℕ). sheet t (r .marks)) (r .that-set) in
-        let inside = said-sound 4096 511 bytes 0 set (r .marks) is-bytes its .inside in
-        accepted-is bytes .1 (its ∙ ap (sheet set) (right-by-tests limits set values valid (r .marks) (r .that-count) inside (r .each-mark)))),
+        let inside = said-sound most largest bytes 0 set (r .marks) is-bytes its .inside in
+        accepted-is bytes .1 (its ∙ ap (sheet set) (right-by-tests terms set values valid (r .marks) (r .that-count) inside (r .each-mark)))),
   )
 
   -- (b)
-  pub one-accepted : Bytes (seriesSheet limits set values) × (checkOf limits set values (seriesSheet limits set values) ≡ accepted)
-      × ((bytes : List ℕ) → Bytes bytes → checkOf limits set values bytes ≡ accepted → bytes ≡ seriesSheet limits set values)
+  pub one-accepted : Bytes (seriesSheet terms set values) × (checkOf terms set values (seriesSheet terms set values) ≡ accepted)
+      × ((bytes : List ℕ) → Bytes bytes → checkOf terms set values bytes ≡ accepted → bytes ≡ seriesSheet terms set values)
   unfolding right seriesSheet
   one-accepted = (
-    sheet-bytes set (marksOf limits set values),
-    accepted-is (seriesSheet limits set values) .1
-        (said-written 4096 511 set (marksOf limits set values) (seriesSheet limits set values) 0 valid (omega arith)
-        (omega (arith, length-marks limits set values)) (omega arith) (right-inside limits set values valid) refl),
-    (λ bytes is-bytes e. said-sound 4096 511 bytes 0 set (marksOf limits set values) is-bytes (accepted-is bytes .0 e) .string),
+    sheet-bytes set (marksOf terms set values),
+    accepted-is (seriesSheet terms set values) .1
+        (said-written most largest set (marksOf terms set values) (seriesSheet terms set values) 0 valid (omega arith)
+        (omega (arith, length-marks terms set values)) (omega arith) (right-inside terms set values valid) refl),
+    (λ bytes is-bytes e. said-sound most largest bytes 0 set (marksOf terms set values) is-bytes (accepted-is bytes .0 e) .string),
   )
 
   -- (c)
-  pub writer-gives-it : (room : List ℕ) → length (seriesSheet limits set values) ≤ length room
-      → (writeOf limits set values (length room) ≡ (0, length (seriesSheet limits set values)))
-      × (roomAfter limits set values room ≡ atFront (seriesSheet limits set values) room)
+  pub writer-gives-it : (room : List ℕ) → length (seriesSheet terms set values) ≤ length room
+      → (writeOf terms set values (length room) ≡ (0, length (seriesSheet terms set values)))
+      × (roomAfter terms set values room ≡ atFront (seriesSheet terms set values) room)
   writer-gives-it room h =
-      let holds = le-leb (length (seriesSheet limits set values)) (length room) h in (
-        sym (write-done limits set values none-refused (length room)) ∙ simp holds,
-        sym (room-done limits set values none-refused room) ∙ simp holds,
+      let holds = le-leb (length (seriesSheet terms set values)) (length room) h in (
+        sym (write-done terms set values none-refused (length room)) ∙ simp holds,
+        sym (room-done terms set values none-refused room) ∙ simp holds,
       )
 
   -- and in a shorter room it writes nothing, and answers 6
-  pub writer-refuses : (room : List ℕ) → length room < length (seriesSheet limits set values)
-      → (writeOf limits set values (length room) ≡ (6, 0)) × (roomAfter limits set values room ≡ room)
+  pub writer-refuses : (room : List ℕ) → length room < length (seriesSheet terms set values)
+      → (writeOf terms set values (length room) ≡ (6, 0)) × (roomAfter terms set values room ≡ room)
   writer-refuses room h =
-      let short = lt-leb (length (seriesSheet limits set values)) (length room) h in (
-        sym (write-done limits set values none-refused (length room)) ∙ simp short,
-        sym (room-done limits set values none-refused room) ∙ simp short,
+      let short = lt-leb (length (seriesSheet terms set values)) (length room) h in (
+        sym (write-done terms set values none-refused (length room)) ∙ simp short,
+        sym (room-done terms set values none-refused room) ∙ simp short,
       )
 
 -- ---- the same of the two functions: `Post` is what each promises of its result and of the lent room, told its arguments
@@ -128,34 +127,34 @@ module _ (limits : Limits) (set : ℕ) (values : List Float)
 module _ (κs : Lfts 2) (a : Dens κs check-kinds.ps) (x : resT check-kinds.r κs .Denot)
     (s : AtExit (endedOf 2 check-kinds.ps check-kinds.r) κs)
     (promised : check.Post κs a x s) where
-  pub check-accepts : (x ≡ Accepted) ↔ (checkOf (a .1 .0) (a .1 .1 .0 .mask) (a .0 .now) (a .1 .1 .1 .0 .now) ≡ accepted)
+  pub check-accepts : (x ≡ Accepted) ↔ (checkOf (under (a .1 .0)) (a .1 .1 .0 .mask) (a .0 .now) (a .1 .1 .1 .0 .now) ≡ accepted)
   check-accepts = ((λ e. sym promised ∙ ap checked e), (λ e. checked-one x Accepted (promised ∙ e)))
 
-  pub check-accepts-exactly : length (a .0 .now) ≤ 4096 → a .1 .1 .0 .mask ≤ 511
+  pub check-accepts-exactly : length (a .0 .now) ≤ most → a .1 .1 .0 .mask ≤ largest
       → finiteLimits (a .1 .0) ≡ true → allFinite (a .0 .now) ≡ true → Bytes (a .1 .1 .1 .0 .now)
-      → (x ≡ Accepted) ↔ Right (a .1 .0) (a .1 .1 .0 .mask) (a .0 .now) (a .1 .1 .1 .0 .now)
+      → (x ≡ Accepted) ↔ Right (under (a .1 .0)) (a .1 .1 .0 .mask) (a .0 .now) (a .1 .1 .1 .0 .now)
   check-accepts-exactly few valid sound finite is-bytes =
-      let both = accepted-exactly (a .1 .0) (a .1 .1 .0 .mask) (a .0 .now) few valid sound finite (a .1 .1 .1 .0 .now) is-bytes in
+      let both = accepted-exactly (under (a .1 .0)) (a .1 .1 .0 .mask) (a .0 .now) few valid sound finite (a .1 .1 .1 .0 .now) is-bytes in
       ((λ e. both .0 (check-accepts .0 e)), (λ r. check-accepts .1 (both .1 r)))
 
   -- (b): of all bytes `check` accepts the one sheet, and no others
-  pub check-accepts-one : length (a .0 .now) ≤ 4096 → a .1 .1 .0 .mask ≤ 511
+  pub check-accepts-one : length (a .0 .now) ≤ most → a .1 .1 .0 .mask ≤ largest
       → finiteLimits (a .1 .0) ≡ true → allFinite (a .0 .now) ≡ true → Bytes (a .1 .1 .1 .0 .now)
-      → (x ≡ Accepted) ↔ (a .1 .1 .1 .0 .now ≡ seriesSheet (a .1 .0) (a .1 .1 .0 .mask) (a .0 .now))
+      → (x ≡ Accepted) ↔ (a .1 .1 .1 .0 .now ≡ seriesSheet (under (a .1 .0)) (a .1 .1 .0 .mask) (a .0 .now))
   check-accepts-one few valid sound finite is-bytes =
-      let one = one-accepted (a .1 .0) (a .1 .1 .0 .mask) (a .0 .now) few valid sound finite in (
+      let one = one-accepted (under (a .1 .0)) (a .1 .1 .0 .mask) (a .0 .now) few valid sound finite in (
         (λ e. one .2 (a .1 .1 .1 .0 .now) is-bytes (check-accepts .0 e)),
-        (λ e. check-accepts .1 (ap (checkOf (a .1 .0) (a .1 .1 .0 .mask) (a .0 .now)) e ∙ one .1)),
+        (λ e. check-accepts .1 (ap (checkOf (under (a .1 .0)) (a .1 .1 .0 .mask) (a .0 .now)) e ∙ one .1)),
       )
 
 -- (c): `write` leaves that sheet in every room that holds it
 pub write-gives-it : (κs : Lfts 2) (a : Dens κs write-kinds.ps) (x : resT write-kinds.r κs .Denot)
     (s : AtExit (endedOf 2 write-kinds.ps write-kinds.r) κs)
     → write.Post κs a x s
-    → length (a .0 .now) ≤ 4096 → a .1 .1 .0 .mask ≤ 511 → finiteLimits (a .1 .0) ≡ true → allFinite (a .0 .now) ≡ true
-    → length (seriesSheet (a .1 .0) (a .1 .1 .0 .mask) (a .0 .now)) ≤ length (a .1 .1 .1 .0 .now)
-    → (x ≡ Sheet (length (seriesSheet (a .1 .0) (a .1 .1 .0 .mask) (a .0 .now))))
-    × (s .1 .1 .1 .0 .now ≡ atFront (seriesSheet (a .1 .0) (a .1 .1 .0 .mask) (a .0 .now)) (a .1 .1 .1 .0 .now))
+    → length (a .0 .now) ≤ most → a .1 .1 .0 .mask ≤ largest → finiteLimits (a .1 .0) ≡ true → allFinite (a .0 .now) ≡ true
+    → length (seriesSheet (under (a .1 .0)) (a .1 .1 .0 .mask) (a .0 .now)) ≤ length (a .1 .1 .1 .0 .now)
+    → (x ≡ Sheet (length (seriesSheet (under (a .1 .0)) (a .1 .1 .0 .mask) (a .0 .now))))
+    × (s .1 .1 .1 .0 .now ≡ atFront (seriesSheet (under (a .1 .0)) (a .1 .1 .0 .mask) (a .0 .now)) (a .1 .1 .1 .0 .now))
 write-gives-it κs a x s promised few valid sound finite room =
-    let gives = writer-gives-it (a .1 .0) (a .1 .1 .0 .mask) (a .0 .now) few valid sound finite (a .1 .1 .1 .0 .now) room in
+    let gives = writer-gives-it (under (a .1 .0)) (a .1 .1 .0 .mask) (a .0 .now) few valid sound finite (a .1 .1 .1 .0 .now) room in
     (written-one x (Sheet _) (promised .0 ∙ gives .0), promised .1 ∙ gives .1)

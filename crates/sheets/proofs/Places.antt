@@ -5,31 +5,33 @@ use native.Mathlib.Nat.{pow-suc}
 use native.Mathlib.Omega.{arith}
 use mathlib.Core.Path.{_≡_, refl, sym, ap, _∙_}
 use mathlib.Core.Bool.{Bool, true, false, not, _&&_, cond}
-use mathlib.Core.List.{List, [], _∷_, _++_, append-nil}
+use mathlib.Core.List.{List, [], _∷_, _++_}
 use lib.Bits.{and-le-r}
 use lib.Dec.{eqb, ltb, leb}
 use lib.Ieee.{Float}
 use lib.ListN.{length, drop, replicate, length-append}
 use borrow.Author.Tests.{ltb-true, ltb-false, leb-true, eqb-true, eqb-false}
+use Rattle.laws.specs.Bools.{every}
 use Rattle.laws.specs.Refusals.{firstOf}
+use Rattle.laws.proofs.Refusals.{first-under}
 use Rattle.laws.specs.Lists.{tabulateFrom}
-use Rattle.groups.specs.declared.Reading.{Reading}
-use Rattle.groups.specs.declared.Reading.the-variants.{Number, Fault}
+use Rattle.groups.specs.declared.Reading.the-variants.{Number}
 use Rattle.groups.specs.Groups.{groups, Front, some, none, before, front, readAs, numberAt}
-use Rattle.groups.proofs.Strings.{before-zero, before-some, front-one, front-more}
-use Rattle.groups.proofs.Numbers.{read-some, read-over, read-there, not-some, not-number}
-use Rattle.rules.specs.declared.Limits.{Limits}
-use Rattle.floats.specs.Finite.{allFinite}
-use Rattle.rules.specs.Finite.{finiteLimits}
+use Rattle.groups.proofs.Strings.{groups-most, before-zero, before-some, front-one, front-more}
+use Rattle.groups.proofs.Numbers.{read-some, read-over, not-some, not-number}
+use Rattle.groups.proofs.Onward.{by-number}
+use Rattle.rules.specs.Terms.{Terms}
 use Rattle.rules.specs.Lines.{linesOf}
-use Rattle.rules.specs.Marking.{answerOf, marksAt, marksOf}
+use Rattle.sets.specs.Sets.{largest}
+use Rattle.rules.specs.Marking.{most, ahead, refusal, marksAt, marksOf}
 use Rattle.rules.proofs.Accepted.{was-accepted}
 use Rattle.rules.proofs.Meaning.{marks-lt, length-marks}
 use Rattle.sheets.specs.Sheet.{marked, entriesOf, sheetOf}
-use Rattle.sheets.specs.Said.{Said, fault, sheet, onward, number, isPart, placed, entries, saidFrom, said}
-use Rattle.sheets.specs.Answers.{Verdict, refusal, firstWrong, judged, checkOf, seriesSheet, writeOf}
+use Rattle.sheets.specs.Said.{Said, fault, sheet, number, isPart, placed, entries, saidFrom, said}
+use Rattle.sheets.specs.Answers.{Verdict, firstWrong, judged, checkOf, seriesSheet, writeOf}
 use Rattle.sheets.proofs.Points.{marked-le, entriesOf-none, entriesOf-zero, entriesOf-mark}
 use Rattle.sheets.proofs.Sheets.{isPart-means}
+use Rattle.sheets.proofs.Judging.{check-done, check-refused, write-done, write-refused}
 
 -- ---- a number takes at most ten bytes
 
@@ -94,10 +96,7 @@ number-ends : (s : List ℕ) (at v next : ℕ) → numberAt s at ≡ Number v ne
 number-ends s at v next e = let b = number-bytes s at v next 9 e in b .1 (omega (arith, b .0))
 
 two-bytes : (x : ℕ) → x < 16384 → length (groups x) ≤ 2
-two-bytes x h =
-    let there = read-there (groups x) 0 x [] (omega arith) (sym (append-nil (groups x))) in
-    let l = number-bytes (groups x) 0 x (0 + length (groups x)) 1 there .1 h in
-    omega arith
+two-bytes x h = groups-most x 1 (omega arith)
 
 -- ---- what bytes say: a fault lies at q or before, and the marks are at most `top`
 
@@ -127,15 +126,8 @@ placed-within q top skip m (sheet set ms) h w = small-zeros top skip (cons h w)
 
 number-within : (q top : ℕ) (ok : ℕ → Bool) (s : List ℕ) (at : ℕ) (rest : ℕ → ℕ → Said) → at ≤ q
     → ((v next : ℕ) → ok v ≡ true → next ≤ at + 10 → Within q top (rest v next)) → Within q top (number ok s at rest)
-number-within q top ok s at rest h f = by (numberAt s at) refl
-  where
-    by : (r : Reading) → numberAt s at ≡ r → Within q top (onward ok at rest r)
-    by (Fault p) e = h
-    by (Number v next) e = value (ok v) refl
-      where
-        value : (t : Bool) → ok v ≡ t → Within q top (cond t (rest v next) (fault at))
-        value true o = f v next o (number-ends s at v next e)
-        value false o = h
+number-within q top ok s at rest h f =
+    by-number (fault at) (fault at) ok s at rest (Within q top) h h (λ v next e o. f v next o (number-ends s at v next e))
 
 part-low : (set m : ℕ) → isPart set m ≡ true → m ≤ set
 part-low set m e = let inside = isPart-means set m e .1 in omega (arith, and-le-r m set)
@@ -194,48 +186,37 @@ judged-bounded set right (sheet t ms) few small w = by (not (eqb (length ms) (le
     by true = alone {n = 10} (omega arith)
     by false = wrong-bounded 0 (omega arith) small w
 
-refusal-low : (a b c d e : Bool) → firstOf {A = ℕ} ((a, 5) ∷ (b, 4) ∷ (c, 3) ∷ (d, 3) ∷ (e, 6) ∷ []) 0 ≤ 10
-unfolding firstOf
-refusal-low true b c d e = omega arith
-refusal-low false true c d e = omega arith
-refusal-low false false true d e = omega arith
-refusal-low false false false true e = omega arith
-refusal-low false false false false true = omega arith
-refusal-low false false false false false = omega arith
-
 small-table : (top : ℕ) (f : ℕ → ℕ) → ((i : ℕ) → f i ≤ top) → (i n : ℕ) → Small top (tabulateFrom f i n)
 unfolding tabulateFrom
 small-table top f h i zero = nil
 small-table top f h i (suc n) = cons (h i) (small-table top f h (suc i) n)
 
-module _ (limits : Limits) (set : ℕ) (values : List Float) where
-  low : refusal limits set values ≤ 10
-  unfolding answerOf
-  low = refusal-low (ltb 4096 (length values)) (ltb 511 set) (not (finiteLimits limits)) (not (allFinite values))
-      (ltb (length values) (length values))
+module _ (terms : Terms) (set : ℕ) (values : List Float) where
+  low : refusal terms set values ≤ 10
+  unfolding ahead every
+  low = first-under 10 (ahead terms set values) refl
 
-  marks-small : Small 511 (marksOf limits set values)
+  marks-small : Small 511 (marksOf terms set values)
   unfolding marksOf
   marks-small =
-      let l = linesOf limits in
+      let l = linesOf (terms .limits) in
       small-table 511 (marksAt l set values) (λ i. let h = marks-lt l set values i in omega arith) 0 (length values)
 
-  marks-few : refusal limits set values ≡ 0 → length (marksOf limits set values) ≤ 4096
+  marks-few : refusal terms set values ≡ 0 → length (marksOf terms set values) ≤ 4096
   marks-few e =
-      let few = was-accepted limits set values (length values) e .few in
-      let same = length-marks limits set values in
+      let few = was-accepted terms set values e .few in
+      let same = length-marks terms set values in
       omega arith
 
-  pub check-bounded : (s : List ℕ) → Bounded (checkOf limits set values s)
-  unfolding checkOf firstOf
-  check-bounded s = by (eqb (refusal limits set values) 0) refl
+  pub check-bounded : (s : List ℕ) → Bounded (checkOf terms set values s)
+  check-bounded s = by (eqb (refusal terms set values) 0) refl
     where
-      by : (t : Bool) → eqb (refusal limits set values) 0 ≡ t
-          → Bounded (cond (not t) (refusal limits set values, 0, 0, 0) (judged set (marksOf limits set values) (said s)))
+      by : (t : Bool) → eqb (refusal terms set values) 0 ≡ t → Bounded (checkOf terms set values s)
       by true e =
-          judged-bounded set (marksOf limits set values) (said s) (marks-few (eqb-true (refusal limits set values) 0 e)) marks-small
-          (said-within 4096 511 s 0)
-      by false e = alone low
+          rw (sym (check-done terms set values (eqb-true (refusal terms set values) 0 e) s))
+          (judged-bounded set (marksOf terms set values) (said s) (marks-few (eqb-true (refusal terms set values) 0 e)) marks-small
+          (said-within most largest s 0))
+      by false e = rw (sym (check-refused terms set values (eqb-false (refusal terms set values) 0 e) s)) (alone low)
 
 -- ---- a sheet's length: here each number takes at most two bytes
 
@@ -277,21 +258,21 @@ pub data Short : ℕ × ℕ → Type 0 where
   number-only : {n : ℕ} → n ≤ 10 → Short (n, 0)
   bytes : {n : ℕ} → n ≤ 16390 → Short (0, n)
 
-pub write-short : (limits : Limits) (set : ℕ) (values : List Float) (room : ℕ) → Short (writeOf limits set values room)
-unfolding writeOf firstOf seriesSheet
-write-short limits set values room = by (eqb (refusal limits set values) 0) refl
+pub write-short : (terms : Terms) (set : ℕ) (values : List Float) (room : ℕ) → Short (writeOf terms set values room)
+unfolding seriesSheet
+write-short terms set values room = by (eqb (refusal terms set values) 0) refl
   where
     whole : List ℕ
-    whole = sheetOf set (marksOf limits set values)
+    whole = seriesSheet terms set values
 
-    held : length whole ≤ 16390 → (t : Bool) → Short (cond t (6, 0) (0, length whole))
-    held h true = number-only {n = 6} (omega arith)
-    held h false = bytes h
+    held : length whole ≤ 16390 → (t : Bool) → Short (cond t (0, length whole) (6, 0))
+    held h true = bytes h
+    held h false = number-only {n = 6} (omega arith)
 
-    by : (t : Bool) → eqb (refusal limits set values) 0 ≡ t
-        → Short (cond (not t) (refusal limits set values, 0) (cond (ltb room (length whole)) (6, 0) (0, length whole)))
+    by : (t : Bool) → eqb (refusal terms set values) 0 ≡ t → Short (writeOf terms set values room)
     by true e =
-        let done = eqb-true (refusal limits set values) 0 e in
-        held (sheet-long set (marksOf limits set values) (was-accepted limits set values (length values) done .small)
-        (marks-few limits set values done) (marks-small limits set values)) (ltb room (length whole))
-    by false e = number-only (low limits set values)
+        let none = eqb-true (refusal terms set values) 0 e in
+        rw (sym (write-done terms set values none room))
+        (held (sheet-long set (marksOf terms set values) (was-accepted terms set values none .small)
+        (marks-few terms set values none) (marks-small terms set values)) (leb (length whole) room))
+    by false e = rw (sym (write-refused terms set values (eqb-false (refusal terms set values) 0 e) room)) (number-only (low terms set values))

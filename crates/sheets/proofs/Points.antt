@@ -1,12 +1,13 @@
 -- The marked points of a list and their entries, point by point. Assumes nothing.
-use Prim.Native.Nat.{ℕ, zero, suc, _+_, _≤_}
+use Prim.Native.Nat.{ℕ, zero, suc, _+_, _-_, _≤_}
 use native.Mathlib.Omega.{arith}
 use native.Mathlib.Nat.{zero-add}
 use mathlib.Core.Path.{_≡_, refl, sym, ap, _∙_}
 use mathlib.Core.Bool.{Bool, true, false}
 use mathlib.Core.List.{List, [], _∷_, _++_}
 use lib.Dec.{eqb}
-use lib.ListN.{length, take, replicate}
+use lib.ListN.{length, take, replicate, length-replicate}
+use lib.Seq.{length-take-le}
 use borrow.Author.Tests.{eqb-true, eqb-false, ne-eqb}
 use Rattle.laws.specs.Bools.{count}
 use Rattle.groups.specs.Groups.{groups}
@@ -75,3 +76,7 @@ zeros-front zero zero = refl
 zeros-front zero (suc k) = refl
 zeros-front (suc n) zero = refl
 zeros-front (suc n) (suc k) = ap (λ (l : List ℕ). 0 ∷ l) (zeros-front n k)
+
+-- so long a front of them has so many, where there are as many
+pub front-long : (n k : ℕ) → k ≤ n → length (take (k - 0) (replicate {A = ℕ} n 0)) ≡ k
+front-long n k h = length-take-le (k - 0) (replicate n 0) (omega (arith, length-replicate {A = ℕ} n 0)) ∙ omega arith

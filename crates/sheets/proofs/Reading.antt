@@ -11,9 +11,10 @@ use borrow.Author.Tests.{lt-ltb, le-ltb, le-leb, lt-leb, leb-true, eq-eqb, ne-eq
 use Rattle.groups.proofs.Numbers.{not-number}
 use Rattle.groups.specs.declared.Reading.{Reading}
 use Rattle.groups.specs.declared.Reading.the-variants.{Number, Fault}
-use Rattle.groups.specs.Groups.{numberAt}
+use Rattle.groups.specs.Groups.{numberAt, onward}
+use Rattle.groups.proofs.Onward.{no-number, out-of-place, in-place}
 use Rattle.sheets.specs.declared.reader.Entry.the-variants.{Whole, Broken}
-use Rattle.sheets.specs.Said.{Said, fault, onward, number, isPart, placed, entries}
+use Rattle.sheets.specs.Said.{Said, fault, number, isPart, placed, entries}
 use Rattle.sheets.specs.Steps.{atMost, FirstEntry}
 
 -- ---- a number that is at most so much
@@ -34,7 +35,7 @@ not-fault e = not-number (sym e)
 module _ (most at : ℕ) (rest : ℕ → ℕ → Said) where
   -- it was read, and the rest is said behind it
   went-on : (r : Reading) (v next : ℕ) → atMost most at r ≡ Number v next
-      → (onward (λ n. leb n most) at rest r ≡ rest v next) × (v ≤ most)
+      → (onward (fault at) (fault at) (λ n. leb n most) rest r ≡ rest v next) × (v ≤ most)
   went-on (Fault p) v next e = not-number e
   went-on (Number w p) v next e = by (leb w most) refl e
     where
@@ -48,7 +49,7 @@ module _ (most at : ℕ) (rest : ℕ → ℕ → Said) where
       by false t f = not-number f
 
   -- it was not
-  stopped : (r : Reading) (p : ℕ) → atMost most at r ≡ Fault p → onward (λ n. leb n most) at rest r ≡ fault at
+  stopped : (r : Reading) (p : ℕ) → atMost most at r ≡ Fault p → onward (fault at) (fault at) (λ n. leb n most) rest r ≡ fault at
   stopped (Fault q) p e = refl
   stopped (Number w q) p e = by (leb w most) e
     where
@@ -74,37 +75,37 @@ module _ (s : List ℕ) (set left at : ℕ) where
 
   pub skip-none : (p : ℕ) → numberAt s at ≡ Fault p → FirstEntry s set left at (Broken at)
   unfolding entries
-  skip-none p e = record { goes = λ k. ap (onward (λ skip. ltb skip left) at _) e; fits = tt }
+  skip-none p e = record { goes = λ k. no-number (fault at) (fault at) (λ skip. ltb skip left) s at _ p e; fits = tt }
 
   module _ (skip p : ℕ) (e : numberAt s at ≡ Number skip p) where
     pub skip-past : left ≤ skip → FirstEntry s set left at (Broken at)
     unfolding entries
-    skip-past h = record { goes = λ k. ap (onward (λ skip. ltb skip left) at _) e ∙ simp (le-ltb skip left h); fits = tt }
+    skip-past h = record { goes = λ k. out-of-place (fault at) (fault at) (λ skip. ltb skip left) s at _ skip p e (le-ltb skip left h); fits = tt }
 
     module _ (h : skip < left) where
       goes : (k : ℕ) → entries s set (suc k) left at ≡ skipped k skip p
       unfolding entries skipped
-      goes k = ap (onward (λ skip. ltb skip left) at _) e ∙ simp (lt-ltb skip left h)
+      goes k = in-place (fault at) (fault at) (λ skip. ltb skip left) s at _ skip p e (lt-ltb skip left h)
 
       pub marks-none : (q : ℕ) → numberAt s p ≡ Fault q → FirstEntry s set left at (Broken p)
       unfolding skipped
-      marks-none q f = record { goes = λ k. goes k ∙ ap (onward (isPart set) p _) f; fits = tt }
+      marks-none q f = record { goes = λ k. goes k ∙ no-number (fault p) (fault p) (isPart set) s p _ q f; fits = tt }
 
       module _ (m q : ℕ) (f : numberAt s p ≡ Number m q) where
         pub marks-zero : m ≡ 0 → FirstEntry s set left at (Broken p)
         unfolding skipped
-        marks-zero z = record { goes = λ k. goes k ∙ ap (onward (isPart set) p _) f ∙ simp (eq-eqb m 0 z); fits = tt }
+        marks-zero z = record { goes = λ k. goes k ∙ out-of-place (fault p) (fault p) (isPart set) s p _ m q f (simp (eq-eqb m 0 z)); fits = tt }
 
         pub marks-outside : (m ≡ 0 → ⊥) → (bitAnd m set ≡ m → ⊥) → FirstEntry s set left at (Broken p)
         unfolding skipped
         marks-outside z o = record {
-          goes = λ k. goes k ∙ ap (onward (isPart set) p _) f ∙ simp (ne-eqb m 0 z, ne-eqb (bitAnd m set) m o);
+          goes = λ k. goes k ∙ out-of-place (fault p) (fault p) (isPart set) s p _ m q f (simp (ne-eqb m 0 z, ne-eqb (bitAnd m set) m o));
           fits = tt;
         }
 
         pub marks-inside : (m ≡ 0 → ⊥) → bitAnd m set ≡ m → FirstEntry s set left at (Whole skip m q)
         unfolding skipped
         marks-inside z i = record {
-          goes = λ k. goes k ∙ ap (onward (isPart set) p _) f ∙ simp (ne-eqb m 0 z, eq-eqb (bitAnd m set) m i);
+          goes = λ k. goes k ∙ in-place (fault p) (fault p) (isPart set) s p _ m q f (simp (ne-eqb m 0 z, eq-eqb (bitAnd m set) m i));
           fits = h;
         }

@@ -11,12 +11,11 @@ use lib.Dec.{ltb, leb, eqb}
 use lib.ListN.{length, drop, getD, replicate, length-append, length-replicate, length-drop, drop-of-length-le}
 use lib.Seq.{drop-append-seam, drop-drop, getD-drop}
 use borrow.Author.Tests.{lt-ltb, le-ltb, le-leb, ltb-true, ltb-false, leb-true, eq-eqb, ne-eqb, eqb-true, eqb-false}
-use Rattle.groups.specs.declared.Reading.{Reading}
-use Rattle.groups.specs.declared.Reading.the-variants.{Number, Fault}
-use Rattle.groups.specs.Groups.{groups, numberAt}
+use Rattle.groups.specs.Groups.{groups}
 use Rattle.groups.proofs.Numbers.{Bytes, read-there, written-read}
+use Rattle.groups.proofs.Onward.{in-place, by-number}
 use Rattle.sheets.specs.Sheet.{marked, entriesOf, sheetOf}
-use Rattle.sheets.specs.Said.{Said, fault, sheet, onward, number, isPart, placed, entries, saidFrom}
+use Rattle.sheets.specs.Said.{Said, fault, sheet, number, isPart, placed, entries, saidFrom}
 use Rattle.sheets.proofs.Points.{marked-none, marked-zero, marked-suc, marked-le, marked-zeros, zeros-snoc, zeros-only}
 use Rattle.sheets.proofs.Points.{entriesOf-none, entriesOf-zero, entriesOf-mark, entriesOf-zeros}
 
@@ -33,8 +32,7 @@ module _ (s : List ℕ) (at v : ℕ) (tail : List ℕ) (there : drop at s ≡ gr
   number-says : (ok : ℕ → Bool) (rest : ℕ → ℕ → Said) → v < 2 ^ 64 → ok v ≡ true
       → number ok s at rest ≡ rest v (at + length (groups v))
   number-says ok rest h t =
-      ap (onward ok at rest) (read-there s at v tail h there)
-      ∙ ap (λ (b : Bool). cond b (rest v (at + length (groups v))) (fault at)) t
+      in-place (fault at) (fault at) ok s at rest v (at + length (groups v)) (read-there s at v tail h there) t
 
 isPart-yes : (set m : ℕ) → (m ≡ 0 → ⊥) → bitAnd m set ≡ m → isPart set m ≡ true
 isPart-yes set m h e = simp (ne-eqb m 0 h, eq-eqb (bitAnd m set) m e)
@@ -117,22 +115,15 @@ bytes-from : (s : List ℕ) (at : ℕ) → Bytes s → Bytes (drop at s)
 bytes-from s at h i = rw (getD-drop at s i 0) (h (at + i))
 
 module _ (ok : ℕ → Bool) (s : List ℕ) (at : ℕ) (rest : ℕ → ℕ → Said) (t : ℕ) (ms : List ℕ) (bytes : Bytes s) where
-  took-by : (r : Reading) → numberAt s at ≡ r → onward ok at rest r ≡ sheet t ms → Took ok s at rest t ms
-  took-by (Fault p) e f = not-sheet f
-  took-by (Number v next) e f = by (ok v) refl
-    where
-      by : (b : Bool) → ok v ≡ b → Took ok s at rest t ms
-      by true o = record {
+  took : number ok s at rest ≡ sheet t ms → Took ok s at rest t ms
+  took = by-number (fault at) (fault at) ok s at rest (λ r. r ≡ sheet t ms → Took ok s at rest t ms) (λ f. not-sheet f) (λ f. not-sheet f)
+      (λ v next e o f. record {
         value = v;
         next = next;
         string = written-read s at v next (bytes-from s at bytes) e .string;
         passed = o;
-        then = rw o at f;
-      }
-      by false o = not-sheet (rw o at f)
-
-  took : number ok s at rest ≡ sheet t ms → Took ok s at rest t ms
-  took f = took-by (numberAt s at) refl f
+        then = f;
+      })
 
 pub isPart-means : (set m : ℕ) → isPart set m ≡ true → (m ≡ 0 → ⊥) × (bitAnd m set ≡ m)
 isPart-means set m e = by (eqb m 0) refl

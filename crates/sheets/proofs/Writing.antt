@@ -1,5 +1,5 @@
 -- The turns of the writer's loops, which measure the entries and write them, and the sheet put together. Assumes nothing.
-use Prim.Native.Nat.{ℕ, suc, _+_, _*_, _/_, _≤_, _<_}
+use Prim.Native.Nat.{ℕ, suc, _+_, _*_, _≤_, _<_}
 use native.Mathlib.Omega.{arith}
 use mathlib.Core.Path.{_≡_, refl, sym, ap, ap₂, _∙_}
 use mathlib.Core.List.{List, [], _∷_, _++_, append-assoc}
@@ -9,21 +9,9 @@ use Rattle.laws.specs.Front.{atFront}
 use Rattle.laws.proofs.Filling.{Filling, filling-starts, filling-ends}
 use Rattle.laws.proofs.Lending.{lent, regained, lent-room, lent-fills}
 use Rattle.groups.specs.Groups.{groups}
-use Rattle.groups.proofs.Strings.{groups-one, groups-more}
 use Rattle.sheets.specs.Sheet.{marked, entriesOf, sheetOf}
 use Rattle.sheets.specs.Steps.{Measured}
 use Rattle.sheets.proofs.Points.{marked-none, marked-zero, marked-suc, entriesOf-none, entriesOf-zero, entriesOf-mark}
-
--- ---- how many groups a number of sixteen bits has
-
-pub size-one : (x : ℕ) → x < 128 → 1 ≡ length (groups x)
-size-one x h = sym (ap length (groups-one x h))
-
-pub size-two : (x : ℕ) → 128 ≤ x → x < 16384 → 2 ≡ length (groups x)
-size-two x h l = sym (ap length (groups-more x h) ∙ ap suc (sym (size-one (x / 128) (omega arith))))
-
-pub size-three : (x : ℕ) → 16384 ≤ x → x < 65536 → 3 ≡ length (groups x)
-size-three x h l = sym (ap length (groups-more x (omega arith)) ∙ ap suc (sym (size-two (x / 128) (omega arith) (omega arith))))
 
 -- ---- the next point
 
@@ -67,7 +55,7 @@ pub record Measures (ms : List ℕ) (i skip k n : ℕ) : Type 0 where
   pub points : i ≤ length ms
   pub skipped : skip ≤ i
   pub few : k ≤ i
-  pub short : n ≤ 6 * i
+  pub short : n ≤ 20 * i
   pub count : k + marked (drop i ms) ≡ marked ms
   pub bytes : n + length (entriesOf skip (drop i ms)) ≡ length (entriesOf 0 ms)
 
@@ -93,8 +81,8 @@ module _ (ms : List ℕ) (i skip k n : ℕ) (p : Measures ms i skip k n) where
       bytes = omega (arith, p .bytes, ap length (entries-skip ms i h z skip));
     }
 
-    pub measures-put : (getD ms i 0 ≡ 0 → ⊥) → (x y : ℕ) → (x ≡ length (groups skip)) × (x ≤ 3)
-        → (y ≡ length (groups (getD ms i 0))) × (y ≤ 3)
+    pub measures-put : (getD ms i 0 ≡ 0 → ⊥) → (x y : ℕ) → (x ≡ length (groups skip)) × (x ≤ 10)
+        → (y ≡ length (groups (getD ms i 0))) × (y ≤ 10)
         → Measures ms (i + 1) 0 (k + 1) (n + x + y)
     measures-put nz x y u v =
         let long : length (entriesOf skip (drop i ms))

@@ -6,24 +6,17 @@ use Prim.Native.Nat.{ℕ, zero, suc, _-_}
 use lib.Bits.{bitAnd}
 use lib.Dec.{eqb, ltb, leb}
 use lib.ListN.{length, replicate}
-use Rattle.groups.specs.declared.Reading.{Reading}
-use Rattle.groups.specs.declared.Reading.the-variants.{Number, Fault}
-use Rattle.groups.specs.Groups.{numberAt}
+use Rattle.groups.specs.Groups as groups
+use Rattle.sets.specs.Sets.{largest}
+use Rattle.rules.specs.Marking.{most}
 
 pub data Said : Type 0 where
   fault : ℕ → Said
   sheet : ℕ → List ℕ → Said
 
--- ---- a number, by form and then by value
-
--- Where a number was read whose value is in place, what the rest says, told the value and the place past it; else a fault at the
--- number's first byte.
-abbrev pub onward : (ℕ → Bool) → ℕ → (ℕ → ℕ → Said) → Reading → Said
-onward ok at rest (Fault p) = fault at
-onward ok at rest (Number v next) = cond (ok v) (rest v next) (fault at)
-
+-- a number by form and then by value: either fault is at its first byte
 abbrev pub number : (ℕ → Bool) → List ℕ → ℕ → (ℕ → ℕ → Said) → Said
-number ok s at rest = onward ok at rest (numberAt s at)
+number ok s at rest = groups.number (fault at) (fault at) ok s at rest
 
 -- ---- the marked points
 
@@ -53,6 +46,6 @@ saidFrom most top s at =
     number (λ set. leb set top) s p (λ set q.
     number (λ k. leb k n) s q (λ k r. entries s set k n r)))
 
--- 01's bounds
+-- 01's bounds: a sheet has as many points as a series may have values, and a set's number
 abbrev pub said : List ℕ → Said
-said s = saidFrom 4096 511 s 0
+said s = saidFrom most largest s 0

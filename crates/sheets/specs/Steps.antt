@@ -8,6 +8,7 @@ use lib.Dec.{leb}
 use lib.ListN.{length, take, drop, replicate}
 use Rattle.groups.specs.declared.Reading.{Reading}
 use Rattle.groups.specs.declared.Reading.the-variants.{Number, Fault}
+use Rattle.rules.specs.Marking.{most}
 use Rattle.sheets.specs.declared.reader.Entry.{Entry}
 use Rattle.sheets.specs.declared.reader.Entry.the-variants.{Whole, Broken}
 use Rattle.sheets.specs.declared.reader.Entries.{Entries}
@@ -30,10 +31,10 @@ abbrev pub afterHead : List ℕ → Head → Said
 afterHead s (Faulty p) = fault p
 afterHead s (Names points set k next) = entries s set k points next
 
--- there are at most 4,096 points
+-- there are not too many points
 abbrev pub Few : Head → Type 0
 Few (Faulty p) = Unit {0}
-Few (Names points set k next) = points ≤ 4096
+Few (Names points set k next) = points ≤ most
 
 -- what is said, known the first entry; k more follow
 abbrev pub afterEntry : List ℕ → ℕ → ℕ → ℕ → Entry → Said
@@ -83,4 +84,4 @@ pub record Measured (ms : List ℕ) (k n : ℕ) : Type 0 where
   pub points : k ≡ marked ms
   pub bytes : n ≡ length (entriesOf 0 ms)
   pub few : k ≤ length ms
-  pub short : n ≤ 6 * length ms
+  pub short : n ≤ 20 * length ms

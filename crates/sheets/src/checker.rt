@@ -1,8 +1,10 @@
 // The checker: the bytes are read once, and no count in them is trusted.
 use crate::Checked;
+use crate::FEW;
 use crate::reader;
 use crate::reader::Entries;
 use crate::reader::Head;
+use rules::MOST;
 ghost use mathlib.Core.Path.{_≡_};
 ghost use lib.Dec.{eqb};
 ghost use lib.ListN.{length, replicate};
@@ -88,7 +90,11 @@ pub fn check_marks(marks: &[u16], set: u16, s: &[u8]) -> Checked
             marked,
             next,
         } => {
-            let mut stated = [0u16; 4096];
+            if points <= FEW {
+                let mut stated = [0u16; FEW];
+                return check_entries(s, next, marked, named, &mut stated[0..points], marks, set);
+            }
+            let mut stated = [0u16; MOST];
             check_entries(s, next, marked, named, &mut stated[0..points], marks, set)
         }
     }

@@ -4,22 +4,23 @@ mod reader;
 mod writer;
 
 use rules::Limits;
+use rules::MOST;
 use rules::Marked;
+use rules::Refusal;
 use sets::RuleSet;
 ghost use mathlib.Core.Path.{_≡_};
+ghost use Prim.Native.Nat.{_≤_};
 ghost use lib.ListN.{length};
+ghost use Rattle.rules.specs.Terms.{under};
+ghost use Rattle.rules.specs.Marking.{most};
 ghost use Rattle.sheets.specs.Answers.{checked, written, checkOf, writeOf, roomAfter};
 
 /// What checking a sheet finds.
 pub enum Checked {
     /// The sheet is the one of the series, the limits and the set (0).
     Accepted,
-    /// There are more than 4,096 values (5).
-    TooMany,
-    /// The set's mask is over 511 (4).
-    SetTooLarge,
-    /// A limit or a value is not finite (3).
-    NotFinite,
+    /// The series cannot be marked (5, 4 or 3).
+    Refused(Refusal),
     /// The bytes are no sheet (9). The place is that of the first byte of the number at fault, or of the first byte left over.
     Form { at: usize },
     /// The sheet names another number of points or another set (10).
@@ -32,15 +33,15 @@ pub enum Checked {
 pub enum Written {
     /// The sheet stands at the front of the room, so many bytes long (0).
     Sheet(usize),
-    /// There are more than 4,096 values (5).
-    TooMany,
-    /// The set's mask is over 511 (4).
-    SetTooLarge,
-    /// A limit or a value is not finite (3).
-    NotFinite,
-    /// The room is shorter than the sheet (6).
-    TooShort,
+    /// The series cannot be marked (5, 4 or 3), or the room is shorter than the sheet (6).
+    Refused(Refusal),
 }
+
+/// No sheet is longer: a room of so many bytes holds any.
+pub const LONGEST: usize = 16_390;
+
+// A room for so few marks is cleared faster than one for 4,096.
+const FEW: usize = 128;
 
 impl Checked {
     /// 01's number of the answer.
@@ -49,9 +50,7 @@ impl Checked {
     {
         match self {
             Checked::Accepted => 0,
-            Checked::TooMany => 5,
-            Checked::SetTooLarge => 4,
-            Checked::NotFinite => 3,
+            Checked::Refused(why) => why.number(),
             Checked::Form { at: _ } => 9,
             Checked::Differs => 10,
             Checked::Wrong {
@@ -70,11 +69,43 @@ impl Written {
     {
         match self {
             Written::Sheet(_) => 0,
-            Written::TooMany => 5,
-            Written::SetTooLarge => 4,
-            Written::NotFinite => 3,
-            Written::TooShort => 6,
+            Written::Refused(why) => why.number(),
         }
+    }
+}
+
+// Checks with `marks` as room for the right marks: it holds them unless the values are too many.
+fn check_in(
+    values: &[f64],
+    limits: Limits,
+    set: RuleSet,
+    sheet: &[u8],
+    marks: &mut [u16],
+) -> Checked
+    requires { ⌜ (length (now values) ≤ most → length (now values) ≤ length (now marks)) ⌝ }
+    ensures { λ r. ⌜ checked r ≡ checkOf (under limits) (set .mask) (now (values .entry)) (now (sheet .entry)) ⌝ }
+{
+    match rules::mark(values, limits, set, marks) {
+        Marked::Done => checker::check_marks(&marks[0..values.len()], set.mask, sheet),
+        Marked::Refused(why) => Checked::Refused(why),
+    }
+}
+
+// Writes with such a room.
+fn write_in(
+    values: &[f64],
+    limits: Limits,
+    set: RuleSet,
+    out: &mut [u8],
+    marks: &mut [u16],
+) -> Written
+    requires { ⌜ (length (now values) ≤ most → length (now values) ≤ length (now marks)) ⌝ }
+    ensures answer { λ r. ⌜ written r ≡ writeOf (under limits) (set .mask) (now (values .entry)) (length (now (out .entry))) ⌝ }
+    ensures room { λ r. ⌜ now (out .exit) ≡ roomAfter (under limits) (set .mask) (now (values .entry)) (now (out .entry)) ⌝ }
+{
+    match rules::mark(values, limits, set, marks) {
+        Marked::Done => writer::write_marks(&marks[0..values.len()], set.mask, out),
+        Marked::Refused(why) => Written::Refused(why),
     }
 }
 
@@ -90,18 +121,14 @@ impl Written {
 ///
 /// With no values and the set shewhart, `00 01 00` is accepted, `00 01` is `Form { at: 2 }`, and `00 00 00` is `Differs`.
 pub fn check(values: &[f64], limits: Limits, set: RuleSet, sheet: &[u8]) -> Checked
-    ensures { λ r. ⌜ checked r ≡ checkOf limits (set .mask) (now (values .entry)) (now (sheet .entry)) ⌝ }
+    ensures { λ r. ⌜ checked r ≡ checkOf (under limits) (set .mask) (now (values .entry)) (now (sheet .entry)) ⌝ }
 {
-    let n = values.len();
-    let mut marks = [0u16; 4096];
-    match rules::mark(values, limits, set, &mut marks) {
-        Marked::Done => checker::check_marks(&marks[0..n], set.mask, sheet),
-        Marked::TooMany => Checked::TooMany,
-        Marked::SetTooLarge => Checked::SetTooLarge,
-        Marked::NotFinite => Checked::NotFinite,
-        // a series that has no room in 4,096 entries is too long
-        Marked::TooShort => Checked::TooMany,
+    if values.len() <= FEW {
+        let mut marks = [0u16; FEW];
+        return check_in(values, limits, set, sheet, &mut marks[0..FEW]);
     }
+    let mut marks = [0u16; MOST];
+    check_in(values, limits, set, sheet, &mut marks[0..MOST])
 }
 
 /// Writes the mark sheet of a series, its limits and a rule set at the front of the room `out`.
@@ -113,17 +140,13 @@ pub fn check(values: &[f64], limits: Limits, set: RuleSet, sheet: &[u8]) -> Chec
 /// Ten values of 26.5 with the limits 28.0, 25.0, 22.0 and the set nelson give the nineteen bytes
 /// `0A FF 01 06 04 20 00 20 00 20 00 A0 01 00 A2 01 00 A2 01`.
 pub fn write(values: &[f64], limits: Limits, set: RuleSet, out: &mut [u8]) -> Written
-    ensures answer { λ r. ⌜ written r ≡ writeOf limits (set .mask) (now (values .entry)) (length (now (out .entry))) ⌝ }
-    ensures room { λ r. ⌜ now (out .exit) ≡ roomAfter limits (set .mask) (now (values .entry)) (now (out .entry)) ⌝ }
+    ensures answer { λ r. ⌜ written r ≡ writeOf (under limits) (set .mask) (now (values .entry)) (length (now (out .entry))) ⌝ }
+    ensures room { λ r. ⌜ now (out .exit) ≡ roomAfter (under limits) (set .mask) (now (values .entry)) (now (out .entry)) ⌝ }
 {
-    let n = values.len();
-    let mut marks = [0u16; 4096];
-    match rules::mark(values, limits, set, &mut marks) {
-        Marked::Done => writer::write_marks(&marks[0..n], set.mask, out),
-        Marked::TooMany => Written::TooMany,
-        Marked::SetTooLarge => Written::SetTooLarge,
-        Marked::NotFinite => Written::NotFinite,
-        // a series that has no room in 4,096 entries is too long
-        Marked::TooShort => Written::TooMany,
+    if values.len() <= FEW {
+        let mut marks = [0u16; FEW];
+        return write_in(values, limits, set, out, &mut marks[0..FEW]);
     }
+    let mut marks = [0u16; MOST];
+    write_in(values, limits, set, out, &mut marks[0..MOST])
 }

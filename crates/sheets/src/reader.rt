@@ -1,9 +1,13 @@
 // Reading a sheet from bytes of any origin: the numbers at its head, and its entries into the marks of every point.
 use groups::Reading;
+use rules::MOST;
+use sets::RuleSet;
 ghost use mathlib.Core.Path.{_≡_};
 ghost use Prim.Native.Nat.{_+_, _-_, _*_, _%_, _<_};
 ghost use lib.ListN.{length, replicate};
 ghost use Rattle.groups.specs.Groups.{numberAt};
+ghost use Rattle.sets.specs.Sets.{largest};
+ghost use Rattle.rules.specs.Marking.{most};
 ghost use Rattle.sheets.specs.Said.{saidFrom, entries};
 ghost use Rattle.sheets.specs.Steps.{atMost, afterHead, Few, FirstEntry, Blank, Onward, tells};
 
@@ -63,20 +67,20 @@ fn read_at_most(s: &[u8], at: usize, most: u64) -> Reading
 
 // The head of a sheet.
 pub fn read_head(s: &[u8]) -> Head
-    ensures said { λ r. ⌜ saidFrom 4096 511 (now (s .entry)) 0 ≡ afterHead (now (s .entry)) r ⌝ }
+    ensures said { λ r. ⌜ saidFrom most largest (now (s .entry)) 0 ≡ afterHead (now (s .entry)) r ⌝ }
     ensures few { λ r. ⌜ Few r ⌝ }
 {
     let Reading::Number {
         value: points,
         next: second,
-    } = read_at_most(s, 0, 4096)
+    } = read_at_most(s, 0, MOST as u64)
     else {
         return Head::Faulty { at: 0 };
     };
     let Reading::Number {
         value: set,
         next: third,
-    } = read_at_most(s, second, 511)
+    } = read_at_most(s, second, RuleSet::ALL as u64)
     else {
         return Head::Faulty { at: second };
     };

@@ -1,27 +1,23 @@
 // The writer: the sheet is measured first, and each entry goes into what is left of the room.
 use crate::Written;
 use groups::Writing;
+use rules::Refusal;
 ghost use mathlib.Core.Path.{_≡_};
 ghost use mathlib.Core.List.{_++_};
 ghost use Prim.Native.Nat.{_≤_};
 ghost use lib.ListN.{length};
 ghost use Rattle.laws.specs.Front.{atFront, atFrontIfRoom, roomFor};
 ghost use Rattle.groups.specs.Groups.{groups};
+ghost use Rattle.rules.specs.Marking.{most};
 ghost use Rattle.sheets.specs.Sheet.{entriesOf, sheetOf};
 ghost use Rattle.sheets.specs.Answers.{written};
 ghost use Rattle.sheets.specs.Steps.{Measured};
 
-// How many groups a number has. None in a sheet has more than sixteen bits.
+// How many groups a number of a sheet has.
 fn size(x: u16) -> usize
-    ensures { λ r. ⌜ (r ≡ length (groups x)) × (r ≤ 3) ⌝ }
+    ensures { λ r. ⌜ (r ≡ length (groups x)) × (r ≤ 10) ⌝ }
 {
-    if x < 128 {
-        return 1;
-    }
-    if x < 16384 {
-        return 2;
-    }
-    3
+    groups::size(x as u64)
 }
 
 // Writes a number at the front of a room that holds it, and gives how many bytes it takes.
@@ -65,7 +61,7 @@ struct Extent {
 }
 
 fn measure(marks: &[u16]) -> Extent
-    requires { ⌜ length (now marks) ≤ 4096 ⌝ }
+    requires { ⌜ length (now marks) ≤ most ⌝ }
     ensures { λ r. ⌜ Measured (now (marks .entry)) (r .marked) (r .len) ⌝ }
 {
     let mut i: usize = 0;
@@ -89,7 +85,7 @@ fn measure(marks: &[u16]) -> Extent
 
 // Writes the entries of all marked points.
 fn write_entries(out: &mut [u8], marks: &[u16]) -> usize
-    requires { ⌜ (length (now marks) ≤ 4096) × (length (entriesOf 0 (now marks)) ≤ length (now out)) ⌝ }
+    requires { ⌜ (length (now marks) ≤ most) × (length (entriesOf 0 (now marks)) ≤ length (now out)) ⌝ }
     ensures count { λ r. ⌜ r ≡ length (entriesOf 0 (now (marks .entry))) ⌝ }
     ensures room { λ r. ⌜ now (out .exit) ≡ atFront (entriesOf 0 (now (marks .entry))) (now (out .entry)) ⌝ }
 {
@@ -113,7 +109,7 @@ fn write_entries(out: &mut [u8], marks: &[u16]) -> usize
 
 // Writes the sheet of the set and the marks, or nothing where the room is shorter than the sheet.
 pub fn write_marks(marks: &[u16], set: u16, out: &mut [u8]) -> Written
-    requires { ⌜ length (now marks) ≤ 4096 ⌝ }
+    requires { ⌜ length (now marks) ≤ most ⌝ }
     ensures answer { λ r. ⌜ written r ≡ roomFor (sheetOf set (now (marks .entry))) (length (now (out .entry))) ⌝ }
     ensures room { λ r. ⌜ now (out .exit) ≡ atFrontIfRoom (sheetOf set (now (marks .entry))) (now (out .entry)) ⌝ }
 {
@@ -122,7 +118,7 @@ pub fn write_marks(marks: &[u16], set: u16, out: &mut [u8]) -> Written
     let marked = measured.marked;
     let head = size(points) + size(set) + size(marked);
     if out.len() < head + measured.len {
-        return Written::TooShort;
+        return Written::Refused(Refusal::TooShort);
     }
     let a = write_head(out, points, set, marked);
     let b = write_entries(&mut out[a..], marks);

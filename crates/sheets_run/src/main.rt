@@ -3,8 +3,10 @@
 // and one number that all answers come to, with their places and marks: `oracle/sheets` works it out from 01 by itself.
 use libc::STDOUT_FILENO;
 use rules::Limits;
+use rules::MOST;
 use sets::RuleSet;
 use sheets::Checked;
+use sheets::LONGEST;
 use sheets::Written;
 ghost use Prim.Native.Nat.{_≤_, _<_};
 ghost use lib.ListN.{length};
@@ -194,9 +196,9 @@ fn hundred(counts: &mut [u64; 12]) -> u64 {
 
 // The longest sheet: 4,096 points, all marked. Gives its length, or 0 where it is not accepted.
 fn longest() -> u64 {
-    let values = [100.0f64; 4096];
-    let mut room = [0u8; 16384];
-    let set = RuleSet { mask: 511 };
+    let values = [100.0f64; MOST];
+    let mut room = [0u8; LONGEST];
+    let set = RuleSet { mask: RuleSet::ALL };
     if !short_refused(&values, set, &mut room) {
         return 0;
     }

@@ -3,6 +3,7 @@
 use libc::STDERR_FILENO;
 use libc::STDIN_FILENO;
 use libc::STDOUT_FILENO;
+use reports::LONGEST;
 use reports::Reported;
 ghost use Prim.Native.Nat.{_≤_};
 ghost use mathlib.Core.Path.{_≡_};
@@ -50,10 +51,10 @@ fn read_input(room: &mut [u8]) -> Input
 }
 
 // Room for any report: none is longer (`text-short` of reports/proofs/Longest.antt).
-fn room() -> [u8; 405_704]
+fn room() -> [u8; LONGEST]
     ensures { λ r. ⌜ 405704 ≡ length r ⌝ }
 {
-    [0; 405_704]
+    [0; LONGEST]
 }
 
 // The report of the input, whatever it is, at the front of a room that holds any; gives its length.

@@ -8,12 +8,12 @@ use lib.Ieee.{fin}
 use lib.ListN.{replicate}
 use Rattle.laws.specs.Bools.{every, count}
 use Rattle.laws.specs.Lists.{tabulateFrom}
-use Rattle.laws.specs.Refusals.{firstOf}
+use Rattle.laws.specs.Refusals.{firstOf, each}
 use Rattle.groups.specs.Groups.{groups, numberAt}
-use Rattle.rules.specs.declared.Limits.{Limits}
+use Rattle.rules.specs.Terms.{Terms, under}
 use Rattle.floats.specs.Finite.{finite, allFinite}
 use Rattle.rules.specs.Finite.{finiteLimits}
-use Rattle.rules.specs.Marking.{answerOf, marksOf}
+use Rattle.rules.specs.Marking.{ahead, marksOf}
 use Rattle.sheets.specs.Sheet.{marked, entriesOf, sheetOf}
 use Rattle.sheets.specs.Said.{entries, saidFrom}
 use Rattle.sheets.specs.Answers.{firstWrong, checkOf, seriesSheet, writeOf, roomAfter}
@@ -21,21 +21,21 @@ use Rattle.twin.specs.Bytes.{wordOf, floatsOf, bytesOf}
 use Rattle.twin.specs.Answers.{markNumber, markRoom, checkNumber, writeNumber, writeRoom}
 
 -- 28, 25, 22
-abbrev limits : Limits
-limits = record { ucl = fin false 7 (pos 2); cl = fin false 25 (pos 0); lcl = fin false 11 (pos 1) }
+abbrev terms : Terms
+terms = under (record { ucl = fin false 7 (pos 2); cl = fin false 25 (pos 0); lcl = fin false 11 (pos 1) })
 
 -- ---- row 11: no points, shewhart
 
 -- into a room of four bytes: the sheet `00 01 00`, its length in bits 8 and up, and the fourth byte as it came
-row-11-written : (writeNumber limits 1 [] (7 ∷ 7 ∷ 7 ∷ 7 ∷ []) ≡ 0x300) × (writeRoom limits 1 [] (7 ∷ 7 ∷ 7 ∷ 7 ∷ []) ≡ 0 ∷ 1 ∷ 0 ∷ 7 ∷ [])
-unfolding writeNumber writeRoom writeOf roomAfter firstOf answerOf finiteLimits allFinite finite every floatsOf tabulateFrom
+row-11-written : (writeNumber terms 1 [] (7 ∷ 7 ∷ 7 ∷ 7 ∷ []) ≡ 0x300) × (writeRoom terms 1 [] (7 ∷ 7 ∷ 7 ∷ 7 ∷ []) ≡ 0 ∷ 1 ∷ 0 ∷ 7 ∷ [])
+unfolding writeNumber writeRoom writeOf roomAfter firstOf each ahead finiteLimits allFinite finite every floatsOf tabulateFrom
     seriesSheet marksOf sheetOf marked count entriesOf groups
 row-11-written = (refl, refl)
 
 -- it is accepted; without its last byte it has a fault at place 2; with the set 0 it is another set's
-row-11-checked : (checkNumber limits 1 [] (0 ∷ 1 ∷ 0 ∷ []) ≡ 0) × (checkNumber limits 1 [] (0 ∷ 1 ∷ []) ≡ 0x209)
-    × (checkNumber limits 1 [] (0 ∷ 0 ∷ 0 ∷ []) ≡ 10)
-unfolding checkNumber checkOf firstOf answerOf finiteLimits allFinite finite every floatsOf tabulateFrom marksOf firstWrong saidFrom entries numberAt
+row-11-checked : (checkNumber terms 1 [] (0 ∷ 1 ∷ 0 ∷ []) ≡ 0) × (checkNumber terms 1 [] (0 ∷ 1 ∷ []) ≡ 0x209)
+    × (checkNumber terms 1 [] (0 ∷ 0 ∷ 0 ∷ []) ≡ 10)
+unfolding checkNumber checkOf firstOf each ahead finiteLimits allFinite finite every floatsOf tabulateFrom marksOf firstWrong saidFrom entries numberAt
 row-11-checked = (refl, refl, refl)
 
 -- ---- seven bytes: 2, whatever the set and the rooms are, and the rooms as they came
@@ -44,11 +44,11 @@ module _ (set : ℕ) (room : List ℕ) where
   abbrev seven : List ℕ
   seven = replicate 7 0
 
-  seven-refused : (markNumber limits set seven room ≡ 2) × (checkNumber limits set seven room ≡ 2) × (writeNumber limits set seven room ≡ 2)
+  seven-refused : (markNumber terms set seven room ≡ 2) × (checkNumber terms set seven room ≡ 2) × (writeNumber terms set seven room ≡ 2)
   unfolding markNumber checkNumber writeNumber firstOf
   seven-refused = (refl, refl, refl)
 
-  seven-kept : (markRoom limits set seven room ≡ room) × (writeRoom limits set seven room ≡ room)
+  seven-kept : (markRoom terms set seven room ≡ room) × (writeRoom terms set seven room ≡ room)
   unfolding markRoom writeRoom markNumber firstOf
   seven-kept = (refl, refl)
 

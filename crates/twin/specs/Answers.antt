@@ -8,28 +8,29 @@ use lib.Ieee.{Float}
 use lib.ListN.{length}
 use Rattle.laws.specs.Refusals.{firstOf}
 use Rattle.laws.specs.Front.{atFront}
-use Rattle.rules.specs.declared.Limits.{Limits}
+use Rattle.rules.specs.Terms.{Terms, under}
 use Rattle.rules.specs.Marking.{answerOf, marksOf}
-use Rattle.sheets.specs.Answers.{Verdict, checkOf, writeOf, roomAfter}
+use Rattle.sheets.specs.Answers.{Verdict, plain, checkOf, writeOf, roomAfter}
 use Rattle.root.specs.Root.{numbered, rootOf}
 use Rattle.twin.specs.Bytes.{floatsOf, notEights, bytesOf}
 
-abbrev pub limitsOf : Float → Float → Float → Limits
-limitsOf u c l = record { ucl = u; cl = c; lcl = l }
+-- what a series is asked under, by its three limits
+abbrev pub termsOf : Float → Float → Float → Terms
+termsOf u c l = under (record { ucl = u; cl = c; lcl = l })
 
 -- ---- marking
 
 -- A room of so many bytes has entries for half as many points, an odd byte counting for nothing.
-unfoldable pub markNumber : Limits → ℕ → List ℕ → List ℕ → ℕ
-markNumber limits set bs room = firstOf ((notEights bs, 2) ∷ []) (answerOf limits set (floatsOf bs) (length room / 2))
+unfoldable pub markNumber : Terms → ℕ → List ℕ → List ℕ → ℕ
+markNumber terms set bs room = firstOf ((notEights bs, 2) ∷ []) (answerOf terms set (floatsOf bs) (length room / 2))
 
 -- the bytes of a series' marks, at the front of the room where nothing was refused; else it is as it came
-unfoldable pub bytesAfter : Limits → ℕ → List Float → List ℕ → List ℕ
-bytesAfter limits set values room =
-    cond (eqb (answerOf limits set values (length room / 2)) 0) (atFront (bytesOf (marksOf limits set values)) room) room
+unfoldable pub bytesAfter : Terms → ℕ → List Float → List ℕ → List ℕ
+bytesAfter terms set values room =
+    cond (eqb (answerOf terms set values (length room / 2)) 0) (atFront (bytesOf (marksOf terms set values)) room) room
 
-unfoldable pub markRoom : Limits → ℕ → List ℕ → List ℕ → List ℕ
-markRoom limits set bs room = firstOf ((notEights bs, room) ∷ []) (bytesAfter limits set (floatsOf bs) room)
+unfoldable pub markRoom : Terms → ℕ → List ℕ → List ℕ → List ℕ
+markRoom terms set bs room = firstOf ((notEights bs, room) ∷ []) (bytesAfter terms set (floatsOf bs) room)
 
 -- ---- checking
 
@@ -37,8 +38,8 @@ markRoom limits set bs room = firstOf ((notEights bs, room) ∷ []) (bytesAfter 
 abbrev pub packed : Verdict → ℕ
 packed v = v .0 + 256 * v .1 + 16777216 * v .2 + 1099511627776 * v .3
 
-unfoldable pub checkNumber : Limits → ℕ → List ℕ → List ℕ → ℕ
-checkNumber limits set bs sheet = packed (firstOf ((notEights bs, (2, 0, 0, 0)) ∷ []) (checkOf limits set (floatsOf bs) sheet))
+unfoldable pub checkNumber : Terms → ℕ → List ℕ → List ℕ → ℕ
+checkNumber terms set bs sheet = packed (firstOf ((notEights bs, plain 2) ∷ []) (checkOf terms set (floatsOf bs) sheet))
 
 -- ---- writing
 
@@ -46,11 +47,11 @@ checkNumber limits set bs sheet = packed (firstOf ((notEights bs, (2, 0, 0, 0)) 
 abbrev pub packedLength : ℕ × ℕ → ℕ
 packedLength a = a .0 + 256 * a .1
 
-unfoldable pub writeNumber : Limits → ℕ → List ℕ → List ℕ → ℕ
-writeNumber limits set bs room = packedLength (firstOf ((notEights bs, (2, 0)) ∷ []) (writeOf limits set (floatsOf bs) (length room)))
+unfoldable pub writeNumber : Terms → ℕ → List ℕ → List ℕ → ℕ
+writeNumber terms set bs room = packedLength (firstOf ((notEights bs, (2, 0)) ∷ []) (writeOf terms set (floatsOf bs) (length room)))
 
-unfoldable pub writeRoom : Limits → ℕ → List ℕ → List ℕ → List ℕ
-writeRoom limits set bs room = firstOf ((notEights bs, room) ∷ []) (roomAfter limits set (floatsOf bs) room)
+unfoldable pub writeRoom : Terms → ℕ → List ℕ → List ℕ → List ℕ
+writeRoom terms set bs room = firstOf ((notEights bs, room) ∷ []) (roomAfter terms set (floatsOf bs) room)
 
 -- ---- the root
 

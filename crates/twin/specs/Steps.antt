@@ -8,6 +8,8 @@ use lib.Ieee.{Float}
 use lib.ListN.{length, getD}
 use Rattle.laws.specs.Refusals.{firstOf}
 use Rattle.laws.specs.Front.{atFront}
+use Rattle.sets.specs.Sets.{tooLarge}
+use Rattle.rules.specs.Marking.{most}
 use Rattle.twin.specs.Bytes.{floatsOf, notEights}
 
 abbrev pub pairAt : List ℕ → ℕ → ℕ
@@ -17,9 +19,9 @@ abbrev pub fourAt : List ℕ → ℕ → ℕ
 fourAt bs at = pairAt bs at + 65536 * pairAt bs (at + 2)
 
 -- 2, 5, 4: before the values are read
-unfoldable pub ahead : List ℕ → ℕ → ℕ
-ahead bs set = firstOf ((notEights bs, 2) ∷ (ltb 4096 (length bs / 8), 5) ∷ (ltb 511 set, 4) ∷ []) 0
+unfoldable pub early : List ℕ → ℕ → ℕ
+early bs set = firstOf ((notEights bs, 2) ∷ (ltb most (length bs / 8), 5) ∷ (tooLarge set, 4) ∷ []) 0
 
 -- the values, at the front of a room
 unfoldable pub valuesAfter : List ℕ → ℕ → List Float → List Float
-valuesAfter bs set old = cond (eqb (ahead bs set) 0) (atFront (floatsOf bs) old) old
+valuesAfter bs set old = cond (eqb (early bs set) 0) (atFront (floatsOf bs) old) old

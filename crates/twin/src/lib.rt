@@ -2,6 +2,7 @@
 // that of the root, which is an f64, has document 01's number in bits 0 to 7.
 use root::Rooted;
 use rules::Limits;
+use rules::MOST;
 use sets::RuleSet;
 use sheets::Checked;
 use sheets::Written;
@@ -9,12 +10,16 @@ ghost use mathlib.Core.Path.{_≡_};
 ghost use Prim.Native.Nat.{_+_, _*_, _/_, _%_, _^_, _≤_, _<_};
 ghost use lib.ListN.{length, take, drop};
 ghost use Rattle.laws.specs.Front.{atFront};
-ghost use Rattle.rules.specs.Marking.{answerOf};
+ghost use Rattle.rules.specs.Terms.{under};
+ghost use Rattle.rules.specs.Marking.{most, answerOf};
 ghost use Rattle.sheets.specs.Answers.{checked, written};
 ghost use Rattle.twin.specs.Bytes.{wordOf, floatsOf, bytesOf};
-ghost use Rattle.twin.specs.Answers.{limitsOf, markNumber, bytesAfter, markRoom, packed, checkNumber};
+ghost use Rattle.twin.specs.Answers.{termsOf, markNumber, bytesAfter, markRoom, packed, checkNumber};
 ghost use Rattle.twin.specs.Answers.{packedLength, writeNumber, writeRoom, rootNumber};
-ghost use Rattle.twin.specs.Steps.{pairAt, fourAt, ahead, valuesAfter};
+ghost use Rattle.twin.specs.Steps.{pairAt, fourAt, early, valuesAfter};
+
+// Rooms for so few values are cleared faster than those for 4,096.
+const FEW: usize = 128;
 
 fn wide(b: u8) -> u64
     ensures { λ r. ⌜ (r ≡ b) × (r < 256) ⌝ }
@@ -65,17 +70,17 @@ fn read_floats(b: &[u8], out: &mut [f64])
 
 // How each call begins: the values at the front of `vs` and 0, or the number of what is refused before one of them is read.
 fn read_values(b: &[u8], set: u32, vs: &mut [f64]) -> u64
-    requires { ⌜ length (now vs) ≡ 4096 ⌝ }
-    ensures { λ r. ⌜ r ≡ ahead (now (b .entry)) set ⌝ }
+    requires { ⌜ (length (now b) / 8 ≤ most → length (now b) / 8 ≤ length (now vs)) ⌝ }
+    ensures { λ r. ⌜ r ≡ early (now (b .entry)) set ⌝ }
     ensures { λ r. ⌜ now (vs .exit) ≡ valuesAfter (now (b .entry)) set (now (vs .entry)) ⌝ }
 {
     if b.len() % 8 != 0 {
         return 2;
     }
-    if 4096 < b.len() / 8 {
+    if MOST < b.len() / 8 {
         return 5;
     }
-    if 511 < set {
+    if (RuleSet::ALL as u32) < set {
         return 4;
     }
     read_floats(b, vs);
@@ -108,14 +113,20 @@ fn put_marks(ms: &[u16], out: &mut [u8])
     }
 }
 
-// Marks a series into bytes. Marking itself has room for every point, so that 6 is left to say here.
-fn mark_values(values: &[f64], limits: Limits, set: RuleSet, marks: &mut [u8]) -> u64
-    ensures { λ r. ⌜ r ≡ answerOf limits (set .mask) (now (values .entry)) (length (now (marks .entry)) / 2) ⌝ }
-    ensures { λ r. ⌜ now (marks .exit) ≡ bytesAfter limits (set .mask) (now (values .entry)) (now (marks .entry)) ⌝ }
+// Marks a series into bytes. `ms` has room for the marks of every point unless these are too many, so that 6 is left to say here.
+fn mark_values(
+    values: &[f64],
+    limits: Limits,
+    set: RuleSet,
+    ms: &mut [u16],
+    marks: &mut [u8],
+) -> u64
+    requires { ⌜ (length (now values) ≤ most → length (now values) ≤ length (now ms)) ⌝ }
+    ensures { λ r. ⌜ r ≡ answerOf (under limits) (set .mask) (now (values .entry)) (length (now (marks .entry)) / 2) ⌝ }
+    ensures { λ r. ⌜ now (marks .exit) ≡ bytesAfter (under limits) (set .mask) (now (values .entry)) (now (marks .entry)) ⌝ }
 {
     let n = values.len();
-    let mut ms = [0u16; 4096];
-    let marked = rules::mark(values, limits, set, &mut ms).number();
+    let marked = rules::mark(values, limits, set, ms).number();
     if marked != 0 {
         return wide(marked);
     }
@@ -133,9 +144,7 @@ fn pack(c: Checked) -> u64
 {
     match c {
         Checked::Accepted => 0,
-        Checked::TooMany => 5,
-        Checked::SetTooLarge => 4,
-        Checked::NotFinite => 3,
+        Checked::Refused(why) => wide(why.number()),
         Checked::Form { at } => 9 + 256 * (at as u64),
         Checked::Differs => 10,
         Checked::Wrong { at, right, stated } => 11
@@ -152,11 +161,56 @@ fn pack_length(w: Written) -> u64
 {
     match w {
         Written::Sheet(len) => 256 * (len as u64),
-        Written::TooMany => 5,
-        Written::SetTooLarge => 4,
-        Written::NotFinite => 3,
-        Written::TooShort => 6,
+        Written::Refused(why) => wide(why.number()),
     }
+}
+
+// The three calls on the bytes of the values, with rooms for what is read of them and for its marks: these hold as many as there
+// are values, unless the values are too many.
+
+fn mark_in(
+    values: &[u8],
+    limits: Limits,
+    set: u32,
+    vs: &mut [f64],
+    ms: &mut [u16],
+    marks: &mut [u8],
+) -> u64
+    requires { ⌜ (length (now values) / 8 ≤ most → length (now values) / 8 ≤ length (now vs)) × (length (now values) / 8 ≤ most → length (now values) / 8 ≤ length (now ms)) ⌝ }
+    ensures answer { λ r. ⌜ r ≡ markNumber (under limits) set (now (values .entry)) (now (marks .entry)) ⌝ }
+    ensures marks { λ r. ⌜ now (marks .exit) ≡ markRoom (under limits) set (now (values .entry)) (now (marks .entry)) ⌝ }
+{
+    let n = values.len() / 8;
+    let refused = read_values(values, set, vs);
+    if refused != 0 {
+        return refused;
+    }
+    mark_values(&vs[0..n], limits, RuleSet { mask: set as u16 }, ms, marks)
+}
+
+fn check_in(values: &[u8], limits: Limits, set: u32, vs: &mut [f64], sheet: &[u8]) -> u64
+    requires { ⌜ (length (now values) / 8 ≤ most → length (now values) / 8 ≤ length (now vs)) ⌝ }
+    ensures { λ r. ⌜ r ≡ checkNumber (under limits) set (now (values .entry)) (now (sheet .entry)) ⌝ }
+{
+    let n = values.len() / 8;
+    let refused = read_values(values, set, vs);
+    if refused != 0 {
+        return refused;
+    }
+    pack(sheets::check(&vs[0..n], limits, RuleSet { mask: set as u16 }, sheet))
+}
+
+fn write_in(values: &[u8], limits: Limits, set: u32, vs: &mut [f64], sheet: &mut [u8]) -> u64
+    requires { ⌜ (length (now values) / 8 ≤ most → length (now values) / 8 ≤ length (now vs)) ⌝ }
+    ensures answer { λ r. ⌜ r ≡ writeNumber (under limits) set (now (values .entry)) (now (sheet .entry)) ⌝ }
+    ensures room { λ r. ⌜ now (sheet .exit) ≡ writeRoom (under limits) set (now (values .entry)) (now (sheet .entry)) ⌝ }
+{
+    let n = values.len() / 8;
+    let refused = read_values(values, set, vs);
+    if refused != 0 {
+        return refused;
+    }
+    pack_length(sheets::write(&vs[0..n], limits, RuleSet { mask: set as u16 }, sheet))
 }
 
 /// Marks every point of a series: two bytes a point at the front of `marks`, low byte first, with test b of the set in
@@ -183,19 +237,23 @@ pub extern "C" fn dramulenz_mark(
     set: u32,
     marks: &mut [u8],
 ) -> u64
-    ensures answer { λ r. ⌜ r ≡ markNumber (limitsOf ucl cl lcl) set (now (values .entry)) (now (marks .entry)) ⌝ }
-    ensures marks { λ r. ⌜ now (marks .exit) ≡ markRoom (limitsOf ucl cl lcl) set (now (values .entry)) (now (marks .entry)) ⌝ }
+    ensures answer { λ r. ⌜ r ≡ markNumber (termsOf ucl cl lcl) set (now (values .entry)) (now (marks .entry)) ⌝ }
+    ensures marks { λ r. ⌜ now (marks .exit) ≡ markRoom (termsOf ucl cl lcl) set (now (values .entry)) (now (marks .entry)) ⌝ }
 {
-    let n = values.len() / 8;
-    let mut vs = [0.0f64; 4096];
-    let refused = read_values(values, set, &mut vs);
-    if refused != 0 {
-        return refused;
+    let limits = Limits { ucl, cl, lcl };
+    if values.len() <= 8 * FEW {
+        let mut vs = [0.0f64; FEW];
+        let mut ms = [0u16; FEW];
+        return mark_in(values, limits, set, &mut vs[0..FEW], &mut ms[0..FEW], marks);
     }
-    mark_values(
-        &vs[0..n],
-        Limits { ucl, cl, lcl },
-        RuleSet { mask: set as u16 },
+    let mut vs = [0.0f64; MOST];
+    let mut ms = [0u16; MOST];
+    mark_in(
+        values,
+        limits,
+        set,
+        &mut vs[0..MOST],
+        &mut ms[0..MOST],
         marks,
     )
 }
@@ -226,20 +284,15 @@ pub extern "C" fn dramulenz_check(
     set: u32,
     sheet: &[u8],
 ) -> u64
-    ensures { λ r. ⌜ r ≡ checkNumber (limitsOf ucl cl lcl) set (now (values .entry)) (now (sheet .entry)) ⌝ }
+    ensures { λ r. ⌜ r ≡ checkNumber (termsOf ucl cl lcl) set (now (values .entry)) (now (sheet .entry)) ⌝ }
 {
-    let n = values.len() / 8;
-    let mut vs = [0.0f64; 4096];
-    let refused = read_values(values, set, &mut vs);
-    if refused != 0 {
-        return refused;
+    let limits = Limits { ucl, cl, lcl };
+    if values.len() <= 8 * FEW {
+        let mut vs = [0.0f64; FEW];
+        return check_in(values, limits, set, &mut vs[0..FEW], sheet);
     }
-    pack(sheets::check(
-        &vs[0..n],
-        Limits { ucl, cl, lcl },
-        RuleSet { mask: set as u16 },
-        sheet,
-    ))
+    let mut vs = [0.0f64; MOST];
+    check_in(values, limits, set, &mut vs[0..MOST], sheet)
 }
 
 /// Writes the mark sheet of a series, its limits and a rule set at the front of `sheet`.
@@ -265,21 +318,16 @@ pub extern "C" fn dramulenz_write(
     set: u32,
     sheet: &mut [u8],
 ) -> u64
-    ensures answer { λ r. ⌜ r ≡ writeNumber (limitsOf ucl cl lcl) set (now (values .entry)) (now (sheet .entry)) ⌝ }
-    ensures room { λ r. ⌜ now (sheet .exit) ≡ writeRoom (limitsOf ucl cl lcl) set (now (values .entry)) (now (sheet .entry)) ⌝ }
+    ensures answer { λ r. ⌜ r ≡ writeNumber (termsOf ucl cl lcl) set (now (values .entry)) (now (sheet .entry)) ⌝ }
+    ensures room { λ r. ⌜ now (sheet .exit) ≡ writeRoom (termsOf ucl cl lcl) set (now (values .entry)) (now (sheet .entry)) ⌝ }
 {
-    let n = values.len() / 8;
-    let mut vs = [0.0f64; 4096];
-    let refused = read_values(values, set, &mut vs);
-    if refused != 0 {
-        return refused;
+    let limits = Limits { ucl, cl, lcl };
+    if values.len() <= 8 * FEW {
+        let mut vs = [0.0f64; FEW];
+        return write_in(values, limits, set, &mut vs[0..FEW], sheet);
     }
-    pack_length(sheets::write(
-        &vs[0..n],
-        Limits { ucl, cl, lcl },
-        RuleSet { mask: set as u16 },
-        sheet,
-    ))
+    let mut vs = [0.0f64; MOST];
+    write_in(values, limits, set, &mut vs[0..MOST], sheet)
 }
 
 /// The square root of `x`, rounded to the nearest f64; that of +0.0 and of -0.0 is the same zero.

@@ -10,6 +10,7 @@ use Rattle.laws.proofs.OneBit.{one-shl}
 use Rattle.sets.specs.Sets.{bitOf}
 use Rattle.sets.proofs.Sets.{bitOf-lt}
 use Rattle.rules.specs.Marking.{answerOf}
+use Rattle.rules.specs.Terms.{under}
 use Rattle.evidence.proofs.Behind.{part-bounds, refused-alone, marked-alone}
 use borrow.Author.Needs.{needs}
 use Rattle.evidence.proofs.shows_pattern.Statement.{statement}
@@ -27,7 +28,7 @@ alone c =
 abbrev start : tie.After-number → tie.Start
 start c = c .before .before .before .before .before .before
 
-answered : (c : tie.After-number) → c .number .result ≡ answerOf (start c .args .limits) (mask (c .before .before .before .before)) (start c .args .part .now) 15
+answered : (c : tie.After-number) → c .number .result ≡ answerOf (under (start c .args .limits)) (mask (c .before .before .before .before)) (start c .args .part .now) 15
 answered c = c .number .ensures ∙ c .before .before .mark .ensures .0
 
 -- ---- the needs
@@ -53,7 +54,7 @@ number-requires c κs = search needs
 returns : tie.Need-returns
 returns c =
     let s = start (c .before) in
-    refused-alone (s .args .limits) (s .args .t) (s .args .part .now) (s .pre) _ (alone (c .before .before .before .before .before))
+    refused-alone (under (s .args .limits)) (s .args .t) (s .args .part .now) (s .pre) _ (alone (c .before .before .before .before .before))
     (λ e. c .if1 .taken (answered (c .before) ∙ e))
 
 sub-result : tie.Need-sub-result
@@ -73,7 +74,7 @@ returns-2 : tie.Need-returns-2
 returns-2 c =
     let s = start (c .before) in
     ap (λ (m : List ℕ). not (eqb (getD m (length (s .args .part .now) - 1) 0) 0)) (c .before .before .before .mark .ensures .1)
-    ∙ marked-alone (s .args .limits) (s .args .t) (s .args .part .now) (s .pre) _ (alone (c .before .before .before .before .before)) (sym (answered (c .before)) ∙ c .if1 .left)
+    ∙ marked-alone (under (s .args .limits)) (s .args .t) (s .args .part .now) (s .pre) _ (alone (c .before .before .before .before .before)) (sym (answered (c .before)) ∙ c .if1 .left)
 
 pub shows-pattern-spec : {M : Type 1} → statement M
 shows-pattern-spec =

@@ -4,6 +4,7 @@ use Rattle.sets.specs.declared.Test.{Test}
 use Rattle.sets.specs.declared.Found.the-variants as finding
 use Rattle.sets.specs.Sets.{testAt}
 use Rattle.evidence.specs.Evidence.{shownAt}
+use Rattle.rules.specs.Terms.{under}
 use Rattle.evidence.proofs.Behind.{past-the-series, no-such-test, no-such-window, shown-by-part, no-span, a-span}
 use borrow.Author.Needs.{needs}
 use Rattle.evidence.proofs.span_at.Statement.{statement}
@@ -21,7 +22,7 @@ is-test : (c : tie.After-window) → testAt (start c .args .bit) ≡ finding.Tes
 is-test c = sym (c .before .before .before .before .from-bit .ensures) ∙ c .before .before .t .given .1
 
 shown : (c : tie.After-shows-pattern)
-    → c .shows-pattern .result ≡ (let a = start (c .before .before .before) .args in shownAt (a .series .now) (a .limits) (a .at) (a .bit))
+    → c .shows-pattern .result ≡ (let a = start (c .before .before .before) .args in shownAt (a .series .now) (under (a .limits)) (a .at) (a .bit))
 shown c =
     let w = c .before .before .before in
     c .shows-pattern .ensures ∙ shown-by-part _ _ _ _ (test w) (is-test w) _ (w .window .ensures) (c .before .before .before .before .before .before .before .before .if1 .left) (c .before .before .if2 .left)

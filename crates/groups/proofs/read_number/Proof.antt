@@ -26,19 +26,35 @@ add-t14 : tie.Need-add-t14 Inv-loop μ-loop
 add-t14 c = search needs
 
 returns : tie.Need-returns Inv-loop μ-loop
-returns c = reads-tenth (c .before .before .before .before .before .loop .inv) (c .before .before .wide .result) (c .before .before .wide .ensures) (c .before .before .before .before .loop-test .taken) (c .before .if1 .taken) (c .if2 .taken)
+returns c =
+    let loop = c .before .before .before .before .before .loop in
+    let loop-test = c .before .before .before .before .loop-test in
+    let wide = c .before .before .wide in
+    reads-tenth (loop .inv) (wide .result) (wide .ensures) (loop-test .taken) (c .before .if1 .taken) (c .if2 .taken)
 
 returns-2 : tie.Need-returns-2 Inv-loop μ-loop
-returns-2 c = reads-over (c .before .before .before .before .before .loop .inv) (c .before .before .wide .result) (c .before .before .wide .ensures) (c .before .before .before .before .loop-test .taken) (c .before .if1 .taken) (c .if2 .left)
+returns-2 c =
+    let loop = c .before .before .before .before .before .loop in
+    let loop-test = c .before .before .before .before .loop-test in
+    let wide = c .before .before .wide in
+    reads-over (loop .inv) (wide .result) (wide .ensures) (loop-test .taken) (c .before .if1 .taken) (c .if2 .left)
 
 add-t17 : tie.Need-add-t17 Inv-loop μ-loop
 add-t17 c = search needs
 
 returns-3 : tie.Need-returns-3 Inv-loop μ-loop
-returns-3 c = reads-zero (c .before .before .before .before .before .before .before .loop .inv) (c .before .before .before .before .wide .result) (c .before .before .before .before .wide .ensures) (c .before .before .before .before .before .before .loop-test .taken) (c .before .if4 .taken) (c .if5 .taken)
+returns-3 c =
+    let loop = c .before .before .before .before .before .before .before .loop in
+    let loop-test = c .before .before .before .before .before .before .loop-test in
+    let wide = c .before .before .before .before .wide in
+    reads-zero (loop .inv) (wide .result) (wide .ensures) (loop-test .taken) (c .before .if4 .taken) (c .if5 .taken)
 
 returns-4 : tie.Need-returns-4 Inv-loop μ-loop
-returns-4 c = reads-padding (c .before .before .before .before .before .before .before .loop .inv) (c .before .before .before .before .wide .result) (c .before .before .before .before .wide .ensures) (c .before .before .before .before .before .before .loop-test .taken) (c .before .if4 .taken) (c .if5 .left)
+returns-4 c =
+    let loop = c .before .before .before .before .before .before .before .loop in
+    let loop-test = c .before .before .before .before .before .before .loop-test in
+    let wide = c .before .before .before .before .wide in
+    reads-padding (loop .inv) (wide .result) (wide .ensures) (loop-test .taken) (c .before .if4 .taken) (c .if5 .left)
 
 shl-t18 : tie.Need-shl-t18 Inv-loop μ-loop
 shl-t18 c = shift-fits (c .before .before .before .before .before .before .loop .inv)
@@ -48,7 +64,10 @@ add-t20 c = search needs
 
 returns-5 : tie.Need-returns-5 Inv-loop μ-loop
 returns-5 c =
-    reads-last (c .before .before .before .before .before .before .loop .inv) (c .before .before .before .wide .result) (c .before .before .before .wide .ensures) (c .before .before .before .before .before .loop-test .taken) (c .before .before .if1 .left) (c .before .if3 .taken) (c .if4 .left)
+    let loop = c .before .before .before .before .before .before .loop in
+    let loop-test = c .before .before .before .before .before .loop-test in
+    let wide = c .before .before .before .wide in
+    reads-last (loop .inv) (wide .result) (wide .ensures) (loop-test .taken) (c .before .before .if1 .left) (c .before .if3 .taken) (c .if4 .left)
 
 shl-value : tie.Need-shl-value Inv-loop μ-loop
 shl-value c = shift-fits (c .before .before .before .before .before .loop .inv)
@@ -63,7 +82,11 @@ loop-less : tie.Need-loop-less Inv-loop μ-loop
 loop-less c = search needs
 
 loop-again : tie.Need-loop-again Inv-loop μ-loop
-loop-again c = reads-on (c .before .before .before .before .before .loop .inv) (c .before .before .wide .result) (c .before .before .wide .ensures) (c .before .before .before .before .loop-test .taken) (c .before .if1 .left) (c .if3 .left)
+loop-again c =
+    let loop = c .before .before .before .before .before .loop in
+    let loop-test = c .before .before .before .before .loop-test in
+    let wide = c .before .before .wide in
+    reads-on (loop .inv) (wide .result) (wide .ensures) (loop-test .taken) (c .before .if1 .left) (c .if3 .left)
 
 returns-6 : tie.Need-returns-6 Inv-loop μ-loop
 returns-6 c = reads-ends (c .before .loop .inv) (c .loop-test .left)

@@ -1,10 +1,8 @@
 -- `groups::write_number` meets its contract. `Writes` of proofs/WriteLoop.antt is the loop's invariant. Assumes nothing.
 use native.Mathlib.Omega.{arith}
-use mathlib.Core.Path.{refl, ap}
 use borrow.Author.Needs.{needs}
-use borrow.Author.Tests.{lt-leb, le-leb}
-use lib.ListN.{length, length-set}
-use Rattle.groups.specs.declared.Writing.the-variants.{Bytes}
+use lib.ListN.{length-set}
+use Rattle.laws.proofs.Rooms.{too-short, fits}
 use Rattle.groups.specs.Groups.{groups}
 use Rattle.groups.proofs.WriteLoop.{Writes, group-fits, writes-starts, writes-length, writes-room, writes-on, writes-all, writes-ends}
 use Rattle.groups.proofs.write_number.Statement.{statement}
@@ -16,16 +14,18 @@ Inv-loop out₀ x rest₀ i₀ out rest i = Writes x out₀ out rest i
 abbrev μ-loop : tie.MeasureT-loop
 μ-loop out₀ x rest₀ i₀ out rest i = rest
 
-count-groups-requires : tie.Need-count-groups-requires Inv-loop μ-loop
-count-groups-requires c κs = search needs
+size-requires : tie.Need-size-requires Inv-loop μ-loop
+size-requires c κs = search needs
 
 returns : tie.Need-returns Inv-loop μ-loop
 returns c =
-    let short = lt-leb (length (groups (c .before .before .before .args .x))) (length (c .before .before .before .args .out .now)) (omega (arith, c .before .count-groups .ensures)) in
-    simp short (refl, refl)
+    let args = c .before .before .before .args in
+    too-short (groups (args .x)) (args .out .now) (omega (arith, c .before .size .ensures))
 
 loop-holds : tie.Need-loop-holds Inv-loop μ-loop
-loop-holds c = writes-starts (c .before .before .before .args .x) (c .before .before .before .args .out .now) (omega (arith, c .before .count-groups .ensures))
+loop-holds c =
+    let args = c .before .before .before .args in
+    writes-starts (args .x) (args .out .now) (omega (arith, c .before .size .ensures))
 
 cast-out : tie.Need-cast-out Inv-loop μ-loop
 cast-out c = record { fits = group-fits (c .before .loop .rest) _ (omega arith) }
@@ -56,9 +56,9 @@ same-length c = simp length-set (writes-length (c .before .loop .inv))
 
 returns-2 : tie.Need-returns-2 Inv-loop μ-loop
 returns-2 c =
+    let args = c .before .before .before .before .before .args in
     let w = c .before .loop .inv in
-    let room = le-leb (length (groups (c .before .before .before .before .before .args .x))) (length (c .before .before .before .before .before .args .out .now)) (w .filling .room) in
-    simp room (ap Bytes (writes-all w (c .loop-test .left)), writes-ends w (c .loop-test .left))
+    fits (groups (args .x)) (args .out .now) (w .filling .room) _ _ (writes-all w (c .loop-test .left)) (writes-ends w (c .loop-test .left))
 
 pub write-number-spec : {M : Type 1} → statement M
 write-number-spec =
@@ -66,7 +66,7 @@ write-number-spec =
     (tie.spec
     Inv-loop
     μ-loop
-    count-groups-requires
+    size-requires
     returns
     loop-holds
     cast-out

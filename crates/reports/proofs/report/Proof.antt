@@ -14,7 +14,7 @@ use Rattle.reports.specs.Flow.{flow, flowOf}
 use Rattle.reports.specs.Text.{rLine}
 use Rattle.reports.specs.Report.{chartReport, textOn, textOf}
 use Rattle.reports.specs.Steps.{Legal, LegalFlow, saidBy, size}
-use Rattle.reports.proofs.Rooms.{as-report}
+use Rattle.laws.proofs.Rooms.{told-as}
 use borrow.Author.Needs.{needs}
 use Rattle.reports.proofs.report.Statement.{statement}
 use Rattle.reports.proofs.report.Tie as tie
@@ -83,7 +83,7 @@ returns c =
     let why = c .before .before .before .before .before .why .given in
     let is : textOf (args .input .now) ≡ rLine (why .0 .0) =
     ap textOn (read-flow .ensures .0 ∙ ap (λ (f : Flow). saidBy f (read-flow .last .1 .0)) (why .1)) in
-    as-report _ _ (args .out .now) (sym is) (c .before .before .refuse .ensures)
+    told-as _ _ (args .out .now) (sym is) (c .before .before .refuse .ensures)
 
 same-length-2 : tie.Need-same-length-2
 same-length-2 c = c .before .before .report-chart .kept .1 .1 .0
@@ -96,7 +96,7 @@ returns-2 c =
     let n = size (chart place) in
     let is : textOf (args .input .now) ≡ chartReport (chart place) (take (n - 0) (values place)) =
     ap textOn (said place) ∙ ap (λ (k : ℕ). chartReport (chart place) (take k (values place))) (sym (sub-zero n)) in
-    as-report _ _ (args .out .now) (sym is) (c .before .before .report-chart .ensures)
+    told-as _ _ (args .out .now) (sym is) (c .before .before .report-chart .ensures)
 
 pub report-spec : {M : Type 1} → statement M
 report-spec =

@@ -1,8 +1,8 @@
 -- `report_chart` meets its contract: refused for its values or by evaluating, or told. Assumes nothing.
-use mathlib.Core.Path.{_≡_, sym, ap, _∙_}
+use mathlib.Core.Path.{_≡_, sym, ap, ap₂, _∙_}
 use mathlib.Core.Bool.{true, false, not}
 use mathlib.Core.List.{List}
-use Prim.Native.Nat.{ℕ, _-_}
+use Prim.Native.Nat.{ℕ, _+_, _-_}
 use native.Mathlib.Omega.{arith}
 use borrow.Author.Tests.{not-true, not-false}
 use lib.Ieee.{Float, binary64, ofBits}
@@ -14,13 +14,14 @@ use Rattle.charts.specs.declared.Evaluated.{Evaluated}
 use Rattle.charts.specs.declared.Evaluated.the-variants.{Done}
 use Rattle.charts.specs.Records.{number}
 use Rattle.charts.specs.Series.{pointsIn}
-use Rattle.charts.specs.Evaluating.{evaluated, evaluateOf, limitsOf, seriesMarks, lentAfter}
+use Rattle.charts.specs.Evaluating.{evaluated, evaluateOf, limitsOf, seriesMarks, numberOf, lentAfter}
 use Rattle.charts.proofs.Answers.{number-some}
-use Rattle.reports.specs.Text.{rLine}
-use Rattle.reports.specs.Report.{refusalOf}
+use Rattle.reports.specs.Text.{bothMarks, rLine}
+use Rattle.reports.specs.Report.{firstIndex, refusalOf}
 use Rattle.reports.specs.Steps.{size, Legal}
-use Rattle.reports.proofs.Rooms.{as-report}
-use Rattle.reports.proofs.Evaluations.{few-samples, points-fit, at-room, refused-so, done-so, main-limits, dispersion-limits}
+use Rattle.reports.proofs.Marks.{both-number}
+use Rattle.laws.proofs.Rooms.{told-as}
+use Rattle.reports.proofs.Evaluations.{few-samples, points-fit, at-room, refused-so, done-so, main-limits, dispersion-limits, marks-number}
 use Rattle.reports.proofs.Evaluations.{some-points, finite-limits, not-finite, report-refused, report-done}
 use Rattle.reports.proofs.Evaluations.{main-points, first-small, length-marks, marks-left}
 use borrow.Author.Needs.{needs}
@@ -77,6 +78,10 @@ main-is c = let s = first c in main-limits (chart s) (legal s) (values s) (whole
 dispersion-is : (c : tie.After-e) → c .e .given .0 .0 .dispersion ≡ limitsOf (chart (first c)) 1 (values (first c))
 dispersion-is c = let s = first c in dispersion-limits (chart s) (legal s) (values s) (whole s) (finite s) (c .e .given .0 .0) (done c)
 
+number-is : (c : tie.After-e)
+    → c .e .given .0 .0 .marks ≡ numberOf (seriesMarks (chart (first c)) 0 (values (first c))) + numberOf (seriesMarks (chart (first c)) 1 (values (first c)))
+number-is c = let s = first c in marks-number (chart s) (legal s) (values s) (whole s) (finite s) (c .e .given .0 .0) (done c)
+
 -- what a slice for marks holds, the answer being known
 abbrev left : tie.After-e → ℕ → Evaluated → List ℕ
 left c s r = lentAfter (evaluated r .number) 0 (seriesMarks (chart (first c)) s (values (first c))) (replicate 2048 0)
@@ -112,7 +117,7 @@ returns c =
     let args = c .before .before .before .before .before .before .before .before .args in
     let test = c .before .before .before .before in
     let wrong = sym (test .before .all-finite .ensures) ∙ not-true _ (test .if1 .taken) in
-    as-report _ _ (args .out .now)
+    told-as _ _ (args .out .now)
     (report-refused (args .chart) (args .values .now) 3 (not-finite (args .chart) (args .values .now) wrong) (λ e. omega arith))
     (c .before .before .refuse .ensures)
 
@@ -179,17 +184,18 @@ tell-requires c κs =
     let place = c .before .before .before .before .before .before .before in
     let s = first place in
     let none = none-refused place in
-    let points = c .before .before .before .before .before .dispersion-points .ensures in (
-      (
-        ap finiteLimits (main-is place) ∙ finite-limits (chart s) (values s) none 0,
-        ap finiteLimits (dispersion-is place) ∙ finite-limits (chart s) (values s) none 1,
-      ),
-      record {
-        few = omega (arith, ap length (marks-are place), length-marks (chart s) 0 (values s), points-fit (chart s) (legal s) 0);
-        fewOthers = omega (arith, ap length (others-are place _ points), length-marks (chart s) 1 (values s), points-fit (chart s) (legal s) 1);
-        start = first-small (chart s);
-      },
-    )
+    let points = c .before .before .before .before .before .dispersion-points .ensures in
+    record {
+      main = ap finiteLimits (main-is place) ∙ finite-limits (chart s) (values s) none 0;
+      dispersion = ap finiteLimits (dispersion-is place) ∙ finite-limits (chart s) (values s) none 1;
+      few = omega (arith, ap length (marks-are place), length-marks (chart s) 0 (values s), points-fit (chart s) (legal s) 0);
+      fewOthers = omega (arith, ap length (others-are place _ points), length-marks (chart s) 1 (values s), points-fit (chart s) (legal s) 1);
+      start = first-small (chart s);
+      number =
+          number-is place
+          ∙ sym (both-number (firstIndex (chart s)) (seriesMarks (chart s) 0 (values s)) (seriesMarks (chart s) 1 (values s)))
+          ∙ sym (ap₂ (λ (m o : List ℕ). length (bothMarks (firstIndex (chart s)) m o)) (marks-are place) (others-are place _ points));
+    }
 
 same-length-2 : tie.Need-same-length-2
 same-length-2 c = c .before .before .refuse2 .kept .1 .0
@@ -202,7 +208,7 @@ returns-2 c =
     let is = sym (ap evaluated (why .1)) ∙ answer place in
     let refused = refused-so (chart s) (legal s) (values s) (whole s) (finite s) (why .0 .0) is in
     let told = report-refused (chart s) (values s) (number (why .0 .0)) refused (number-some (why .0 .0)) in
-    as-report _ _ (s .before .before .before .before .args .out .now) (ap rLine (c .before .before .before .before .number .ensures) ∙ told) (c .before .before .refuse2 .ensures)
+    told-as _ _ (s .before .before .before .before .args .out .now) (ap rLine (c .before .before .before .before .number .ensures) ∙ told) (c .before .before .refuse2 .ensures)
 
 same-length-3 : tie.Need-same-length-3
 same-length-3 c = c .before .before .tell .kept .1 .1 .1 .1 .0
@@ -211,7 +217,7 @@ returns-3 : tie.Need-returns-3
 returns-3 c =
     let place = c .before .before .before .before .before .before .before .before .before .before in
     let s = first place in
-    as-report _ _ (s .before .before .before .before .args .out .now)
+    told-as _ _ (s .before .before .before .before .args .out .now)
     (report-done (chart s) (values s) (none-refused place) (main-is place) (dispersion-is place) (marks-are place)
     (others-are place _ (c .before .before .before .before .before .before .before .before .dispersion-points .ensures)))
     (c .before .before .tell .ensures)

@@ -1,38 +1,57 @@
 -- `rules::mark` meets its contract: nothing is written where it refuses, and else the slice is filled. Assumes nothing.
 use mathlib.Core.Path.{_≡_, sym, ap, _∙_}
-use borrow.Author.Tests.{eq-eqb, ne-eqb}
+use native.Mathlib.Omega.{arith}
 use lib.ListN.{length}
-use Rattle.laws.specs.Lists.{tabulate}
 use Rattle.laws.specs.Front.{atFront}
 use Rattle.rules.specs.declared.Lines.{Lines}
-use Rattle.rules.specs.Marking.{answerOf, marksAt, marksOf, marksAfter}
-use Rattle.rules.proofs.Accepted.{was-accepted}
+use Rattle.rules.specs.Terms.{under}
+use Rattle.rules.specs.Marking.{refusal, marksBy, marksOf}
+use Rattle.rules.proofs.Accepted.{answer-refused, answer-short, answer-done, marks-kept, marks-written}
 use borrow.Author.Needs.{needs}
 use Rattle.rules.proofs.mark.Statement.{statement}
 use Rattle.rules.proofs.mark.Tie as tie
 
 returns : tie.Need-returns
-unfolding marksAfter
 returns c =
-    let refused : answerOf (c .before .before .before .before .before .args .limits) (c .before .before .before .before .before .args .set .mask) (c .before .before .before .before .before .args .values .now) (length (c .before .before .before .before .before .args .marks .now)) ≡ 0 → ⊥ =
-    λ e. c .if1 .taken (c .before .number .ensures ∙ c .before .before .answer .ensures ∙ e) in
-    (c .before .before .answer .ensures, simp (ne-eqb _ _ refused))
-
-fill-requires : tie.Need-fill-requires
-fill-requires c κs =
-    let done = was-accepted (c .before .before .before .before .before .before .before .args .limits) (c .before .before .before .before .before .before .before .args .set .mask) (c .before .before .before .before .before .before .before .args .values .now) (length (c .before .before .before .before .before .before .before .args .marks .now))
-    (sym (c .before .before .before .before .answer .ensures) ∙ sym (c .before .before .before .number .ensures) ∙ c .before .before .if1 .left) in
-    done .wide
+    let told = c .before .before .ahead .ensures in
+    let number = c .before .number .ensures in
+    let args = c .before .before .before .before .before .args in
+    let terms = under (args .limits) in
+    let set = args .set .mask in
+    let values = args .values .now in
+    let old = args .marks .now in
+    let some : refusal terms set values ≡ 0 → ⊥ = λ e. c .if1 .taken (number ∙ told ∙ e) in
+    let answer = answer-refused terms set values (length old) some in
+    (told ∙ sym answer, marks-kept terms set values old (λ e. some (sym answer ∙ e)))
 
 returns-2 : tie.Need-returns-2
-unfolding marksAfter marksOf
 returns-2 c =
-    let done : answerOf (c .before .before .before .before .before .before .before .before .before .before .args .limits) (c .before .before .before .before .before .before .before .before .before .before .args .set .mask) (c .before .before .before .before .before .before .before .before .before .before .args .values .now) (length (c .before .before .before .before .before .before .before .before .before .before .args .marks .now)) ≡ 0 =
-    sym (c .before .before .before .before .before .before .before .answer .ensures) ∙ sym (c .before .before .before .before .before .before .number .ensures) ∙ c .before .before .before .before .before .if1 .left in (
-      c .before .before .before .before .before .before .before .answer .ensures,
+    let at = c .before in
+    let args = at .before .before .before .before .before .args in
+    let terms = under (args .limits) in
+    let set = args .set .mask in
+    let values = args .values .now in
+    let old = args .marks .now in
+    let none = sym (at .before .before .ahead .ensures) ∙ sym (at .before .number .ensures) ∙ at .if1 .left in
+    let answer = answer-short terms set values (length old) none (c .if2 .taken) in
+    (sym answer, marks-kept terms set values old (λ e. omega (arith, answer, e)))
+
+returns-3 : tie.Need-returns-3
+unfolding marksOf
+returns-3 c =
+    let room = c .before .before .before .before .before in
+    let at = room .before in
+    let args = at .before .before .before .before .before .args in
+    let terms = under (args .limits) in
+    let set = args .set .mask in
+    let values = args .values .now in
+    let old = args .marks .now in
+    let none = sym (at .before .before .ahead .ensures) ∙ sym (at .before .number .ensures) ∙ at .if1 .left in
+    let answer = answer-done terms set values (length old) none (room .if2 .left) in (
+      sym answer,
       c .before .before .fill .ensures
-          ∙ ap (λ (l : Lines). atFront (tabulate (marksAt l (c .before .before .before .before .before .before .before .before .before .before .args .set .mask) (c .before .before .before .before .before .before .before .before .before .before .args .values .now)) (length (c .before .before .before .before .before .before .before .before .before .before .args .values .now))) (c .before .before .before .before .before .before .before .before .before .before .args .marks .now)) (c .before .before .before .before .lines-of .ensures)
-          ∙ simp (eq-eqb _ _ done),
+          ∙ ap (λ (l : Lines). atFront (marksBy l set values) old) (c .before .before .before .before .lines-of .ensures)
+          ∙ marks-written terms set values old answer,
     )
 
 pub mark-spec : {M : Type 1} → statement M
@@ -42,7 +61,8 @@ mark-spec =
     (λ c κs. search needs)
     (λ c κs. search needs)
     returns
+    returns-2
     (λ c κs. search needs)
-    fill-requires
+    (λ c κs. search needs)
     (λ c. search needs)
-    returns-2)
+    returns-3)

@@ -1,128 +1,31 @@
--- `sheets::check` meets its contract: marking refuses first, and else its marks are the right ones. Assumes nothing.
-use Prim.Native.Nat.{ℕ, _-_}
+-- `sheets::check` meets its contract: either room holds the marks of every value. Assumes nothing.
 use native.Mathlib.Omega.{arith}
-use mathlib.Core.Path.{_≡_, ap, ap₂, _∙_}
-use mathlib.Core.List.{List}
-use lib.ListN.{length, take, replicate, length-replicate}
-use Rattle.rules.specs.declared.Marked.the-variants.{Done, TooMany, SetTooLarge, NotFinite, TooShort}
-use Rattle.rules.specs.Marking.{marksOf}
-use Rattle.rules.proofs.Accepted.{was-accepted}
-use Rattle.sheets.specs.Said.{said}
-use Rattle.sheets.specs.Answers.{judged}
-use Rattle.sheets.proofs.Judging.{refusal-is, never-short, marks-front, check-done, check-refused}
-use borrow.Author.Needs.{needs}
 use Rattle.sheets.proofs.check.Statement.{statement}
 use Rattle.sheets.proofs.check.Tie as tie
 
-slice-aggregate-mark : tie.Need-slice-aggregate-mark
-slice-aggregate-mark c = search needs
-
-mark-requires : tie.Need-mark-requires
-mark-requires c κs = tt
-
-enum-told : tie.Need-enum-told
-enum-told c = search needs
-
-sub-check-marks : tie.Need-sub-check-marks
-sub-check-marks c = omega arith
-
-part-check-marks-start : tie.Need-part-check-marks-start
-part-check-marks-start c = omega arith
-
-part-check-marks-end : tie.Need-part-check-marks-end
-part-check-marks-end c =
-    let args = c .before .before .before .before .before .before .before .before .args in
-    let mark = c .before .before .before .before .mark in
-    let enum-told = c .before .enum-told in
-    let done = refusal-is (args .limits) (args .set .mask) (args .values .now) (replicate 4096 0) (mark .result) Done
-    (length-replicate {A = ℕ} 4096 0) (mark .ensures .0) (enum-told .given .1) in
-    let few = was-accepted (args .limits) (args .set .mask) (args .values .now) (length (args .values .now)) done .few in
-    omega (arith, mark .kept .1 .1 .1 .0)
-
-check-marks-requires : tie.Need-check-marks-requires
-check-marks-requires c κs = search needs
-
-enum-told-2 : tie.Need-enum-told-2
-enum-told-2 c = search needs
-
-enum-told-3 : tie.Need-enum-told-3
-enum-told-3 c = search needs
-
-enum-told-4 : tie.Need-enum-told-4
-enum-told-4 c = search needs
-
-enum-told-5 : tie.Need-enum-told-5
-enum-told-5 c = search needs
+check-in-requires : tie.Need-check-in-requires
+check-in-requires c κs few = omega (arith, c .before .if1 .taken)
 
 returns : tie.Need-returns
-returns c =
-    let args = c .before .before .before .before .before .before .before .before .before .before .args in
-    let mark = c .before .before .before .before .before .before .mark in
-    let enum-told = c .before .before .before .enum-told in
-    let check-marks = c .check-marks in
-    let done = refusal-is (args .limits) (args .set .mask) (args .values .now) (replicate 4096 0) (mark .result) Done
-    (length-replicate {A = ℕ} 4096 0) (mark .ensures .0) (enum-told .given .1) in
-    let all : length (args .values .now) - 0 ≡ length (args .values .now) = omega arith in
-    let marks : take (length (args .values .now) - 0) (mark .last .1 .1 .1 .0) ≡ marksOf (args .limits) (args .set .mask) (args .values .now) =
-    ap₂ take all (mark .ensures .1) ∙ marks-front (args .limits) (args .set .mask) (args .values .now) done (replicate 4096 0)
-    (length-replicate {A = ℕ} 4096 0) in
-    check-marks .ensures
-    ∙ ap (λ (l : List ℕ). judged (args .set .mask) l (said (args .sheet .now))) marks
-    ∙ check-done (args .limits) (args .set .mask) (args .values .now) done (args .sheet .now)
+returns c = c .before .check-in .ensures
+
+check-in-requires-2 : tie.Need-check-in-requires-2
+check-in-requires-2 c κs few = omega (arith, few)
 
 returns-2 : tie.Need-returns-2
-returns-2 c =
-    let args = c .before .before .before .before .before .before .before .args in
-    let mark = c .before .before .before .mark in
-    let enum-told2 = c .enum-told2 in
-    check-refused (args .limits) (args .set .mask) (args .values .now) 4
-    (refusal-is (args .limits) (args .set .mask) (args .values .now) (replicate 4096 0) (mark .result) TooMany (length-replicate {A = ℕ} 4096 0)
-    (mark .ensures .0) (enum-told2 .given .1)) (args .sheet .now)
-
-returns-3 : tie.Need-returns-3
-returns-3 c =
-    let args = c .before .before .before .before .before .before .before .args in
-    let mark = c .before .before .before .mark in
-    let enum-told3 = c .enum-told3 in
-    check-refused (args .limits) (args .set .mask) (args .values .now) 3
-    (refusal-is (args .limits) (args .set .mask) (args .values .now) (replicate 4096 0) (mark .result) SetTooLarge
-    (length-replicate {A = ℕ} 4096 0) (mark .ensures .0) (enum-told3 .given .1)) (args .sheet .now)
-
-returns-4 : tie.Need-returns-4
-returns-4 c =
-    let args = c .before .before .before .before .before .before .before .args in
-    let mark = c .before .before .before .mark in
-    let enum-told4 = c .enum-told4 in
-    check-refused (args .limits) (args .set .mask) (args .values .now) 2
-    (refusal-is (args .limits) (args .set .mask) (args .values .now) (replicate 4096 0) (mark .result) NotFinite
-    (length-replicate {A = ℕ} 4096 0) (mark .ensures .0) (enum-told4 .given .1)) (args .sheet .now)
-
-returns-5 : tie.Need-returns-5
-returns-5 c =
-    let args = c .before .before .before .before .before .before .before .args in
-    let mark = c .before .before .before .mark in
-    let enum-told5 = c .enum-told5 in
-    absurd (never-short (args .limits) (args .set .mask) (args .values .now)
-    (refusal-is (args .limits) (args .set .mask) (args .values .now) (replicate 4096 0) (mark .result) TooShort (length-replicate {A = ℕ} 4096 0)
-    (mark .ensures .0) (enum-told5 .given .1)))
+returns-2 c = c .before .check-in2 .ensures
 
 pub check-spec : {M : Type 1} → statement M
 check-spec =
     tie.close
     (tie.spec
-    slice-aggregate-mark
-    mark-requires
-    enum-told
-    sub-check-marks
-    part-check-marks-start
-    part-check-marks-end
-    check-marks-requires
-    enum-told-2
-    enum-told-3
-    enum-told-4
-    enum-told-5
+    (λ c. omega arith)
+    (λ c. omega arith)
+    (λ c. omega arith)
+    check-in-requires
     returns
-    returns-2
-    returns-3
-    returns-4
-    returns-5)
+    (λ c. omega arith)
+    (λ c. omega arith)
+    (λ c. omega arith)
+    check-in-requires-2
+    returns-2)

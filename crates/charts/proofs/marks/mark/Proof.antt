@@ -1,15 +1,13 @@
 -- `marks::mark` meets its contract: marking refuses nothing, and the marks written are counted. Assumes nothing.
 use native.Mathlib.Omega.{arith}
 use lib.ListN.{length}
-use Rattle.rules.proofs.Accepted.{Accepted, was-accepted}
-use Rattle.charts.proofs.Counting.{front-few, marks-written, marks-counted}
-use mathlib.Core.Path.{_∙_}
+use mathlib.Core.Path.{sym, _∙_}
+use Rattle.rules.specs.Terms.{under}
+use Rattle.rules.proofs.Accepted.{was-accepted, was-done, marks-written}
+use Rattle.charts.proofs.Counting.{front-few, marks-counted}
 use borrow.Author.Needs.{needs}
 use Rattle.charts.proofs.marks.mark.Statement.{statement}
 use Rattle.charts.proofs.marks.mark.Tie as tie
-
-fine : (c : tie.Start) → Accepted (c .args .limits) (c .args .set .mask) (c .args .points .now) (length (c .args .marks .now))
-fine c = was-accepted (c .args .limits) (c .args .set .mask) (c .args .points .now) (length (c .args .marks .now)) (c .pre)
 
 mark-requires : tie.Need-mark-requires
 mark-requires c κs = search needs
@@ -24,14 +22,16 @@ part-count-end : tie.Need-part-count-end
 part-count-end c =
     let mark = c .before .before .before .mark in
     let start = c .before .before .before .before .before .before .before in
-    omega (arith, fine start .wide, mark .kept)
+    let s = start .args in
+    omega (arith, was-done (under (s .limits)) (s .set .mask) (s .points .now) (length (s .marks .now)) (start .pre) .1, mark .kept)
 
 count-requires : tie.Need-count-requires
 count-requires c κs =
     let mark = c .before .before .before .before .mark in
-    let args = c .before .before .before .before .before .before .before .before .args in
     let start = c .before .before .before .before .before .before .before .before in
-    front-few (length (args .points .now)) (mark .last .1 .1 .1 .0) (fine start .few)
+    let s = start .args in
+    let none = was-done (under (s .limits)) (s .set .mask) (s .points .now) (length (s .marks .now)) (start .pre) .0 in
+    front-few (length (s .points .now)) (mark .last .1 .1 .1 .0) (was-accepted (under (s .limits)) (s .set .mask) (s .points .now) none .few)
 
 same-length : tie.Need-same-length
 same-length c = c .before .before .before .before .before .mark .kept .1 .1 .1 .0
@@ -40,12 +40,11 @@ returns : tie.Need-returns
 returns c =
     let count = c .count in
     let mark = c .before .before .before .before .before .mark in
-    let args = c .before .before .before .before .before .before .before .before .before .args in
+    let s = c .before .before .before .before .before .before .before .before .before .args in
     let pre = c .before .before .before .before .before .before .before .before .before .pre in
-    let s = args in
     let marked = mark .ensures .1 in (
-      (marks-counted (s .limits) (s .set .mask) (s .points .now) (s .marks .now) (pre) marked (count .ensures .0), count .ensures .1),
-      marked ∙ marks-written (s .limits) (s .set .mask) (s .points .now) (s .marks .now) (pre),
+      (marks-counted (under (s .limits)) (s .set .mask) (s .points .now) (s .marks .now) pre marked (count .ensures .0), count .ensures .1),
+      marked ∙ sym (marks-written (under (s .limits)) (s .set .mask) (s .points .now) (s .marks .now) pre),
     )
 
 pub mark-spec : {M : Type 1} → statement M

@@ -1,5 +1,6 @@
 -- `flow::read_head` meets its contract: its numbers are those of `headFrom`, in the same order. Assumes nothing.
-use mathlib.Core.Path.{sym, _∙_}
+use mathlib.Core.Path.{sym, ap, _∙_}
+use mathlib.Core.Bool.{not}
 use mathlib.Core.List.{List}
 use Prim.Native.Nat.{ℕ}
 use borrow.Author.Tests.{lt-ltb, le-ltb}
@@ -7,8 +8,9 @@ use Rattle.sets.specs.Sets.{tooLarge}
 use Rattle.charts.specs.Records.{kindWrong, sizeWrong}
 use Rattle.charts.proofs.Cases.{told}
 use Rattle.charts.proofs.Held.{size-bounds}
-use Rattle.reports.specs.Flow.{countWrong, headFrom}
-use Rattle.reports.proofs.Heads.{Passed, no-number, wrong-value, goes, legal}
+use Rattle.reports.specs.Flow.{refused, countWrong, headFrom}
+use Rattle.groups.proofs.Onward.{no-number, out-of-place}
+use Rattle.reports.proofs.Heads.{Passed, goes, legal}
 use borrow.Author.Needs.{needs}
 use Rattle.reports.proofs.flow.read_head.Statement.{statement}
 use Rattle.reports.proofs.flow.read_head.Tie as tie
@@ -25,10 +27,12 @@ abbrev second : tie.Else1 → ℕ
 second c = c .before .before .before .kind .given .0 .1 .0
 
 kind-passed : (c : tie.Else1) → Passed kindWrong (bytes c) 0 (kind c) (second c)
-kind-passed c = record {
-  stands = sym (c .before .before .before .before .before .read-number .ensures) ∙ c .before .before .before .kind .given .1;
-  right = told (c .before .kind-wrong .ensures) (c .if1 .left);
-}
+kind-passed c =
+    let read-number = c .before .before .before .before .before .read-number in
+    record {
+      stands = sym (read-number .ensures) ∙ c .before .before .before .kind .given .1;
+      right = told (c .before .kind-wrong .ensures) (c .if1 .left);
+    }
 
 abbrev past-kind : tie.Else2 → tie.Else1
 past-kind c = c .before .before .before .before .before .before
@@ -40,10 +44,12 @@ abbrev third : tie.Else2 → ℕ
 third c = c .before .before .before .size .given .0 .1 .0
 
 size-passed : (c : tie.Else2) → Passed (sizeWrong (kind (past-kind c))) (bytes (past-kind c)) (second (past-kind c)) (size c) (third c)
-size-passed c = record {
-  stands = sym (c .before .before .before .before .before .read-number2 .ensures) ∙ c .before .before .before .size .given .1;
-  right = told (c .before .size-wrong .ensures) (c .if2 .left);
-}
+size-passed c =
+    let read-number2 = c .before .before .before .before .before .read-number2 in
+    record {
+      stands = sym (read-number2 .ensures) ∙ c .before .before .before .size .given .1;
+      right = told (c .before .size-wrong .ensures) (c .if2 .left);
+    }
 
 abbrev past-size : tie.Else3 → tie.Else2
 past-size c = c .before .before .before .before .before
@@ -55,10 +61,12 @@ abbrev fourth : tie.Else3 → ℕ
 fourth c = c .before .before .set .given .0 .1 .0
 
 set-passed : (c : tie.Else3) → Passed tooLarge (bytes (past-kind (past-size c))) (third (past-size c)) (set c) (fourth c)
-set-passed c = record {
-  stands = sym (c .before .before .before .before .read-number3 .ensures) ∙ c .before .before .set .given .1;
-  right = le-ltb _ (set c) (c .if3 .left);
-}
+set-passed c =
+    let read-number3 = c .before .before .before .before .read-number3 in
+    record {
+      stands = sym (read-number3 .ensures) ∙ c .before .before .set .given .1;
+      right = le-ltb _ (set c) (c .if3 .left);
+    }
 
 abbrev past-set : tie.Else4 → tie.Else3
 past-set c = c .before .before .before .before .before .before
@@ -82,7 +90,7 @@ enum-told c = search needs
 
 returns : tie.Need-returns
 unfolding headFrom
-returns c = (no-number 12 _ _ _ _ _ (sym (c .before .before .read-number .ensures) ∙ c .enum-told .given .1), tt)
+returns c = (no-number (refused 12) (refused 12) _ _ _ _ _ (sym (c .before .before .read-number .ensures) ∙ c .enum-told .given .1), tt)
 
 kind-wrong-requires : tie.Need-kind-wrong-requires
 kind-wrong-requires c κs = search needs
@@ -90,8 +98,9 @@ kind-wrong-requires c κs = search needs
 returns-2 : tie.Need-returns-2
 unfolding headFrom
 returns-2 c =
-    let read = sym (c .before .before .before .before .before .read-number .ensures) ∙ c .before .before .before .kind .given .1 in
-    (wrong-value 12 _ _ _ _ _ _ read (told (c .before .kind-wrong .ensures) (c .if1 .taken)), tt)
+    let read-number = c .before .before .before .before .before .read-number in
+    let read = sym (read-number .ensures) ∙ c .before .before .before .kind .given .1 in
+    (out-of-place (refused 12) (refused 12) _ _ _ _ _ _ read (ap not (told (c .before .kind-wrong .ensures) (c .if1 .taken))), tt)
 
 read-number-requires-2 : tie.Need-read-number-requires-2
 read-number-requires-2 c κs = search needs
@@ -105,7 +114,7 @@ enum-told-2 c = search needs
 returns-3 : tie.Need-returns-3
 unfolding headFrom
 returns-3 c =
-    (goes 12 _ _ _ _ (kind-passed (c .before .before .before)) ∙ no-number 1 _ _ _ _ _ (sym (c .before .before .read-number2 .ensures) ∙ c .enum-told2 .given .1), tt)
+    (goes 12 _ _ _ _ (kind-passed (c .before .before .before)) ∙ no-number (refused 12) (refused 1) _ _ _ _ _ (sym (c .before .before .read-number2 .ensures) ∙ c .enum-told2 .given .1), tt)
 
 size-wrong-requires : tie.Need-size-wrong-requires
 size-wrong-requires c κs = kind-passed (c .before .before .before .before) .right
@@ -113,9 +122,10 @@ size-wrong-requires c κs = kind-passed (c .before .before .before .before) .rig
 returns-4 : tie.Need-returns-4
 unfolding headFrom
 returns-4 c =
-    let read = sym (c .before .before .before .before .before .read-number2 .ensures) ∙ c .before .before .before .size .given .1 in (
+    let read-number2 = c .before .before .before .before .before .read-number2 in
+    let read = sym (read-number2 .ensures) ∙ c .before .before .before .size .given .1 in (
       goes 12 _ _ _ _ (kind-passed (c .before .before .before .before .before .before))
-          ∙ wrong-value 1 _ _ _ _ _ _ read (told (c .before .size-wrong .ensures) (c .if2 .taken)),
+          ∙ out-of-place (refused 12) (refused 1) _ _ _ _ _ _ read (ap not (told (c .before .size-wrong .ensures) (c .if2 .taken))),
       tt,
     )
 
@@ -133,7 +143,7 @@ unfolding headFrom
 returns-5 c =
     let size = c .before .before .before in (
       goes 12 _ _ _ _ (kind-passed (past-kind size)) ∙ goes 1 _ _ _ _ (size-passed size)
-          ∙ no-number 4 _ _ _ _ _ (sym (c .before .before .read-number3 .ensures) ∙ c .enum-told3 .given .1),
+          ∙ no-number (refused 12) (refused 4) _ _ _ _ _ (sym (c .before .before .read-number3 .ensures) ∙ c .enum-told3 .given .1),
       tt,
     )
 
@@ -143,10 +153,11 @@ cast-if3 c = search needs
 returns-6 : tie.Need-returns-6
 unfolding headFrom
 returns-6 c =
+    let read-number3 = c .before .before .before .before .read-number3 in
     let size = c .before .before .before .before .before in
-    let read = sym (c .before .before .before .before .read-number3 .ensures) ∙ c .before .before .set .given .1 in (
+    let read = sym (read-number3 .ensures) ∙ c .before .before .set .given .1 in (
       goes 12 _ _ _ _ (kind-passed (past-kind size)) ∙ goes 1 _ _ _ _ (size-passed size)
-          ∙ wrong-value 4 _ _ _ _ _ _ read (lt-ltb _ _ (c .if3 .taken)),
+          ∙ out-of-place (refused 12) (refused 4) _ _ _ _ _ _ read (ap not (lt-ltb _ _ (c .if3 .taken))),
       tt,
     )
 
@@ -165,7 +176,7 @@ returns-7 c =
     let set = c .before .before .before in
     let size = past-size set in (
       goes 12 _ _ _ _ (kind-passed (past-kind size)) ∙ goes 1 _ _ _ _ (size-passed size) ∙ goes 4 _ _ _ _ (set-passed set)
-          ∙ no-number 5 _ _ _ _ _ (sym (c .before .before .read-number4 .ensures) ∙ c .enum-told4 .given .1),
+          ∙ no-number (refused 12) (refused 5) _ _ _ _ _ (sym (c .before .before .read-number4 .ensures) ∙ c .enum-told4 .given .1),
       tt,
     )
 
@@ -175,11 +186,12 @@ count-wrong-requires c κs = size-bounds _ _ (size-passed (c .before .before .be
 returns-8 : tie.Need-returns-8
 unfolding headFrom
 returns-8 c =
+    let read-number4 = c .before .before .before .before .before .read-number4 in
     let set = c .before .before .before .before .before .before in
     let size = past-size set in
-    let read = sym (c .before .before .before .before .before .read-number4 .ensures) ∙ c .before .before .before .count .given .1 in (
+    let read = sym (read-number4 .ensures) ∙ c .before .before .before .count .given .1 in (
       goes 12 _ _ _ _ (kind-passed (past-kind size)) ∙ goes 1 _ _ _ _ (size-passed size) ∙ goes 4 _ _ _ _ (set-passed set)
-          ∙ wrong-value 5 _ _ _ _ _ _ read (told (c .before .count-wrong .ensures) (c .if4 .taken)),
+          ∙ out-of-place (refused 12) (refused 5) _ _ _ _ _ _ read (ap not (told (c .before .count-wrong .ensures) (c .if4 .taken))),
       tt,
     )
 

@@ -96,11 +96,12 @@ same-length-3 c =
 
 returns-3 : tie.Need-returns-3 Inv-loop μ-loop
 returns-3 c =
+    let pre = c .before .before .before .before .before .before .pre in
     let args = c .before .before .before .before .before .before .args in
     let loop = c .before .before .loop in (
       reads-ends (args .s .now) (args .chart) (size (args .chart)) (args .from) (args .values .now) (loop .values) (loop .at) (loop .i) (loop .inv)
           (c .before .loop-test .left) (c .if1 .left),
-      c .before .before .before .before .before .before .pre .1,
+      pre .1,
     )
 
 pub read-values-spec : {M : Type 1} → statement M

@@ -4,7 +4,7 @@ use native.Mathlib.Omega.{arith}
 use mathlib.Core.Path.{_≡_}
 use lib.ListN.{length}
 use Rattle.reports.specs.Text.{decimal}
-use Rattle.reports.proofs.Digits.{length-one, length-more, decimal-some, decimal-short}
+use Rattle.reports.proofs.Digits.{length-one, length-more, decimal-some, below-power}
 use Rattle.reports.proofs.text.decimal_len.Statement.{statement}
 use Rattle.reports.proofs.text.decimal_len.Tie as tie
 
@@ -18,7 +18,7 @@ loop-holds : tie.Need-loop-holds Inv-loop μ-loop
 loop-holds c = omega arith
 
 add-n : tie.Need-add-n Inv-loop μ-loop
-add-n c = omega (arith, decimal-short (c .before .before .args .x) (omega arith), decimal-some (c .before .loop .rest))
+add-n c = omega (arith, below-power 19 (c .before .before .args .x) (omega arith), decimal-some (c .before .loop .rest))
 
 loop-less : tie.Need-loop-less Inv-loop μ-loop
 loop-less c = omega arith
@@ -27,9 +27,7 @@ loop-again : tie.Need-loop-again Inv-loop μ-loop
 loop-again c = omega (arith, length-more (c .before .loop .rest) (c .loop-test .taken))
 
 returns : tie.Need-returns Inv-loop μ-loop
-returns c =
-    let whole = length-one (c .before .loop .rest) (c .loop-test .left) in
-    (omega arith, omega (arith, decimal-short (c .before .before .args .x) (omega arith)))
+returns c = omega (arith, length-one (c .before .loop .rest) (c .loop-test .left))
 
 pub decimal-len-spec : {M : Type 1} → statement M
 decimal-len-spec =

@@ -1,89 +1,75 @@
--- `text::put_chart` meets its contract: the marks go behind what stands ahead of them. Assumes nothing.
-use native.Mathlib.Omega.{arith}
-use Prim.Native.Nat.{ℕ, _≤_}
-use mathlib.Core.Path.{ap, _∙_}
-use mathlib.Core.List.{List, _++_}
-use lib.ListN.{length, length-append}
-use Rattle.laws.specs.Front.{atFront}
-use Rattle.laws.proofs.Lending.{second-start, second-room, second-fills}
-use Rattle.reports.specs.Text.{eLine}
-use Rattle.reports.specs.TextSteps.{headOf, linesOf}
-use Rattle.reports.proofs.Charts.{chart-parts, chart-fits}
+-- `text::put_chart` meets its contract: its lines, one after the other. Assumes nothing.
+use mathlib.Core.List.{[], _∷_}
+use Rattle.reports.specs.Text.{line}
+use Rattle.reports.specs.TextSteps.{Put, wordsFrom}
+use Rattle.reports.proofs.Charts.{chart-lines}
+use Rattle.reports.proofs.Putting.{put-as, put-both}
 use borrow.Author.Needs.{needs}
 use Rattle.reports.proofs.text.put_chart.Statement.{statement}
 use Rattle.reports.proofs.text.put_chart.Tie as tie
 
--- the two parts of the text, and that the room holds both
-abbrev head : tie.Start → List ℕ
-head c = headOf (c .args .kind) (c .args .size) (c .args .set) (c .args .main) (c .args .dispersion)
+cast-t16 : tie.Need-cast-t16
+cast-t16 c = search needs
 
-abbrev tail : tie.Start → List ℕ
-tail c = linesOf (c .args .first) (c .args .marks .now) (c .args .others .now) ++ eLine (c .args .lines)
+slice-aggregate-put-line : tie.Need-slice-aggregate-put-line
+slice-aggregate-put-line c = search needs
 
-fits : (c : tie.Start) → length (head c ++ tail c) ≤ length (c .args .out .now)
-fits c =
-    let args = c .args in
-    chart-fits (args .kind) (args .size) (args .set) (args .first) (args .marks .now) (args .others .now) (args .main) (args .dispersion)
-    (args .lines) (length (args .out .now)) (c .pre .1 .1 .1) (c .pre .0)
+put-line-requires : tie.Need-put-line-requires
+put-line-requires c κs = search needs
 
-put-head-requires : tie.Need-put-head-requires
-put-head-requires c κs =
-    let start = c .before .before .before .before in
-    (omega (arith, length-append (head start) (tail start), fits start), start .pre .1 .0)
+put-limits-requires : tie.Need-put-limits-requires
+put-limits-requires c κs = search needs
 
-sub-put-tail : tie.Need-sub-put-tail
-sub-put-tail c =
-    let start = c .before .before .before .before .before .before .before in
-    let ahead = c .before .before .put-head in
-    second-start (head start) (tail start) (start .args .out .now) (ahead .last .0) (ahead .result) (fits start) (ahead .ensures .1)
-    (ahead .ensures .0)
+put-limits-requires-2 : tie.Need-put-limits-requires-2
+put-limits-requires-2 c κs = search needs
 
-part-put-tail-start : tie.Need-part-put-tail-start
-part-put-tail-start c = sub-put-tail c
+put-marks-requires : tie.Need-put-marks-requires
+put-marks-requires c κs = search needs
 
-part-put-tail-end : tie.Need-part-put-tail-end
-part-put-tail-end c = search needs
+put-marks-requires-2 : tie.Need-put-marks-requires-2
+put-marks-requires-2 c κs = search needs
 
-put-tail-requires : tie.Need-put-tail-requires
-put-tail-requires c κs =
-    let start = c .before .before .before .before .before .before .before .before in
-    let ahead = c .before .before .before .put-head in (
-      second-room (head start) (tail start) (start .args .out .now) (ahead .last .0) (ahead .result) (fits start) (ahead .ensures .1)
-          (ahead .ensures .0),
-      start .pre .1 .1 .0,
-    )
+slice-aggregate-put-line-2 : tie.Need-slice-aggregate-put-line-2
+slice-aggregate-put-line-2 c = search needs
 
-add-result : tie.Need-add-result
-add-result c =
-    let start = c .before .before .before .before .before .before .before .before .before .before .before in
-    let ahead = c .before .before .before .before .before .before .put-head in
-    let behind = c .before .before .put-tail in
-    omega (arith, length-append (head start) (tail start), fits start, ahead .ensures .0, behind .ensures .0)
+put-line-requires-2 : tie.Need-put-line-requires-2
+put-line-requires-2 c κs = search needs
 
 same-length : tie.Need-same-length
 same-length c = search needs
 
 returns : tie.Need-returns
 returns c =
-    let start = c .before .before .before .before .before .before .before .before .before .before .before in
+    let end = c .before .before in
+    let others = end .before .before .before .before .before in
+    let marks = others .before .before .before .before in
+    let second = marks .before .before .before .before in
+    let first = second .before .before .before .before in
+    let head = first .before .before .before .before in
+    let start = head .before .before .before .before .before .before .before in
     let args = start .args in
-    let ahead = c .before .before .before .before .before .before .put-head in
-    let behind = c .before .before .put-tail in
-    let parts = chart-parts (args .kind) (args .size) (args .set) (args .first) (args .marks .now) (args .others .now) (args .main)
-    (args .dispersion) (args .lines) (start .pre .1 .1 .1) in
-    let fills = second-fills (head start) (tail start) (args .out .now) (ahead .last .0) (ahead .result) (fits start) (ahead .ensures .1)
-    (ahead .ensures .0) (behind .last .0) (behind .result) (behind .ensures .1) (behind .ensures .0) in
-    (fills .0 ∙ ap length parts, fills .1 ∙ ap (λ (l : List ℕ). atFront l (args .out .now)) parts)
+    let number : Put (args .write) (line 69 (wordsFrom 1 0 (args .e .marks ∷ []))) _ _ _ _ = end .put-line2 .ensures in
+    put-as
+    (chart-lines (args .chart .kind) (args .chart .size) (args .chart .set .mask) (args .e .main) (args .e .dispersion) (args .first)
+    (args .marks .now) (args .others .now) (args .e .marks) (start .pre .number))
+    (put-both (head .put-line .ensures)
+    (put-both (first .put-limits .ensures)
+    (put-both (second .put-limits2 .ensures)
+    (put-both (marks .put-marks .ensures)
+    (put-both (others .put-marks2 .ensures) number)))))
 
 pub put-chart-spec : {M : Type 1} → statement M
 put-chart-spec =
     tie.close
     (tie.spec
-    put-head-requires
-    sub-put-tail
-    part-put-tail-start
-    part-put-tail-end
-    put-tail-requires
-    add-result
+    cast-t16
+    slice-aggregate-put-line
+    put-line-requires
+    put-limits-requires
+    put-limits-requires-2
+    put-marks-requires
+    put-marks-requires-2
+    slice-aggregate-put-line-2
+    put-line-requires-2
     same-length
     returns)

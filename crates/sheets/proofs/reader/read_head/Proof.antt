@@ -18,9 +18,10 @@ enum-told c = search needs
 
 returns : tie.Need-returns
 unfolding saidFrom
-returns c =
-    let args = c .before .before .before .before .args in
-    (number-fault 4096 0 _ (args .s .now) _ (sym (c .before .before .read-at-most .ensures) ∙ c .enum-told .given .1), tt)
+returns c = (number-fault 4096 0 _ (c .before .before .before .before .args .s .now) _ (sym (c .before .before .read-at-most .ensures) ∙ c .enum-told .given .1), tt)
+
+cast-read-at-most : tie.Need-cast-read-at-most
+cast-read-at-most c = omega arith
 
 read-at-most-requires-2 : tie.Need-read-at-most-requires-2
 read-at-most-requires-2 c κs = tt
@@ -34,14 +35,11 @@ enum-told-2 c = search needs
 returns-2 : tie.Need-returns-2
 unfolding saidFrom
 returns-2 c =
-    let args = c .before .before .before .before .before .before .before .before .args in
-    let read-at-most = c .before .before .before .before .before .before .read-at-most in
-    let points = c .before .before .before .before .points in
-    let read-at-most2 = c .before .before .read-at-most2 in
-    let enum-told2 = c .enum-told2 in
-    let first = number-read 4096 0 _ (args .s .now) (points .given .0 .0) (points .given .0 .1 .0)
-    (sym (read-at-most .ensures) ∙ points .given .1) in
-    (first ∙ number-fault 511 (points .given .0 .1 .0) _ (args .s .now) _ (sym (read-at-most2 .ensures) ∙ enum-told2 .given .1), tt)
+    let s = c .before .before .before .before .before .before .before .before .args .s .now in
+    let points = c .before .before .before .before .points .given in
+    let second = points .0 .1 .0 in
+    let first = number-read 4096 0 _ s (points .0 .0) second (sym (c .before .before .before .before .before .before .read-at-most .ensures) ∙ points .1) in
+    (first ∙ number-fault 511 second _ s _ (sym (c .before .before .read-at-most2 .ensures) ∙ c .enum-told2 .given .1), tt)
 
 read-at-most-requires-3 : tie.Need-read-at-most-requires-3
 read-at-most-requires-3 c κs = tt
@@ -55,53 +53,34 @@ enum-told-3 c = search needs
 returns-3 : tie.Need-returns-3
 unfolding saidFrom
 returns-3 c =
-    let args = c .before .before .before .before .before .before .before .before .before .before .before .before .args in
-    let read-at-most = c .before .before .before .before .before .before .before .before .before .before .read-at-most in
-    let points = c .before .before .before .before .before .before .before .before .points in
-    let read-at-most2 = c .before .before .before .before .before .before .read-at-most2 in
-    let set = c .before .before .before .before .set in
-    let read-at-most3 = c .before .before .read-at-most3 in
-    let enum-told3 = c .enum-told3 in
-    let first = number-read 4096 0 _ (args .s .now) (points .given .0 .0) (points .given .0 .1 .0)
-    (sym (read-at-most .ensures) ∙ points .given .1) in
-    let second = number-read 511 (points .given .0 .1 .0) _ (args .s .now) (set .given .0 .0) (set .given .0 .1 .0)
-    (sym (read-at-most2 .ensures) ∙ set .given .1) in (
-      first ∙ second ∙ number-fault (points .given .0 .0) (set .given .0 .1 .0) _ (args .s .now) _
-          (sym (read-at-most3 .ensures) ∙ enum-told3 .given .1),
-      tt,
-    )
+    let s = c .before .before .before .before .before .before .before .before .before .before .before .before .args .s .now in
+    let points = c .before .before .before .before .before .before .before .before .points .given in
+    let second = points .0 .1 .0 in
+    let set = c .before .before .before .before .set .given in
+    let third = set .0 .1 .0 in
+    let first = number-read 4096 0 _ s (points .0 .0) second (sym (c .before .before .before .before .before .before .before .before .before .before .read-at-most .ensures) ∙ points .1) in
+    let next = number-read 511 second _ s (set .0 .0) third (sym (c .before .before .before .before .before .before .read-at-most2 .ensures) ∙ set .1) in
+    (first ∙ next ∙ number-fault (points .0 .0) third _ s _ (sym (c .before .before .read-at-most3 .ensures) ∙ c .enum-told3 .given .1), tt)
 
-cast-t12 : tie.Need-cast-t12
-cast-t12 c =
-    let args = c .before .before .before .before .before .before .before .before .before .before .before .before .before .args in
-    let points = c .before .before .before .before .before .before .before .before .before .points in
-    let read-at-most2 = c .before .before .before .before .before .before .before .read-at-most2 in
-    let set = c .before .before .before .before .before .set in
-    omega (
-      arith,
-      number-low 511 (points .given .0 .1 .0) (args .s .now) (set .given .0 .0) (set .given .0 .1 .0)
-          (sym (read-at-most2 .ensures) ∙ set .given .1),
-    )
+cast-t13 : tie.Need-cast-t13
+cast-t13 c =
+    let set = c .before .before .before .before .before .set .given in
+    omega (arith, number-low 511 (c .before .before .before .before .before .before .before .before .before .points .given .0 .1 .0) (c .before .before .before .before .before .before .before .before .before .before .before .before .before .args .s .now) (set .0 .0) (set .0 .1 .0) (sym (c .before .before .before .before .before .before .before .read-at-most2 .ensures) ∙ set .1))
 
 returns-4 : tie.Need-returns-4
 unfolding saidFrom
 returns-4 c =
-    let args = c .before .before .before .before .before .before .before .before .before .before .before .before .before .args in
-    let read-at-most = c .before .before .before .before .before .before .before .before .before .before .before .read-at-most in
-    let points = c .before .before .before .before .before .before .before .before .before .points in
-    let read-at-most2 = c .before .before .before .before .before .before .before .read-at-most2 in
-    let set = c .before .before .before .before .before .set in
-    let read-at-most3 = c .before .before .before .read-at-most3 in
-    let marked = c .before .marked in
-    let first = number-read 4096 0 _ (args .s .now) (points .given .0 .0) (points .given .0 .1 .0)
-    (sym (read-at-most .ensures) ∙ points .given .1) in
-    let second = number-read 511 (points .given .0 .1 .0) _ (args .s .now) (set .given .0 .0) (set .given .0 .1 .0)
-    (sym (read-at-most2 .ensures) ∙ set .given .1) in
-    let few = number-low 4096 0 (args .s .now) (points .given .0 .0) (points .given .0 .1 .0) (sym (read-at-most .ensures) ∙ points .given .1) in (
-      first ∙ second ∙ number-read (points .given .0 .0) (set .given .0 .1 .0) _ (args .s .now) (marked .given .0 .0) (marked .given .0 .1 .0)
-          (sym (read-at-most3 .ensures) ∙ marked .given .1),
-      few,
-    )
+    let s = c .before .before .before .before .before .before .before .before .before .before .before .before .before .args .s .now in
+    let points = c .before .before .before .before .before .before .before .before .before .points .given in
+    let second = points .0 .1 .0 in
+    let set = c .before .before .before .before .before .set .given in
+    let third = set .0 .1 .0 in
+    let marked = c .before .marked .given in
+    let read-points = sym (c .before .before .before .before .before .before .before .before .before .before .before .read-at-most .ensures) ∙ points .1 in
+    let first = number-read 4096 0 _ s (points .0 .0) second read-points in
+    let next = number-read 511 second _ s (set .0 .0) third (sym (c .before .before .before .before .before .before .before .read-at-most2 .ensures) ∙ set .1) in
+    let last = number-read (points .0 .0) third _ s (marked .0 .0) (marked .0 .1 .0) (sym (c .before .before .before .read-at-most3 .ensures) ∙ marked .1) in
+    (first ∙ next ∙ last, number-low 4096 0 s (points .0 .0) second read-points)
 
 pub read-head-spec : {M : Type 1} → statement M
 read-head-spec =
@@ -111,6 +90,7 @@ read-head-spec =
     enum-known-points
     enum-told
     returns
+    cast-read-at-most
     read-at-most-requires-2
     enum-known-set
     enum-told-2
@@ -119,5 +99,5 @@ read-head-spec =
     enum-known-marked
     enum-told-3
     returns-3
-    cast-t12
+    cast-t13
     returns-4)

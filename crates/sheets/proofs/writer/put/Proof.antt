@@ -1,11 +1,10 @@
 -- `sheets::writer::put` meets its contract: the room holds the number, so that it is never too short. Assumes nothing.
 use Prim.Native.Nat.{ℕ}
 use native.Mathlib.Omega.{arith}
-use mathlib.Core.Path.{_≡_, sym, _∙_}
+use mathlib.Core.Path.{_≡_, sym, ap, _∙_}
 use borrow.Author.Tests.{le-leb}
 use lib.ListN.{length}
-use Rattle.groups.specs.declared.Writing.the-variants.{Bytes, Short}
-use Rattle.groups.specs.Groups.{groups}
+use Rattle.groups.specs.Groups.{groups, written}
 use borrow.Author.Needs.{needs}
 use Rattle.sheets.proofs.writer.put.Statement.{statement}
 use Rattle.sheets.proofs.writer.put.Tie as tie
@@ -29,8 +28,8 @@ returns c =
     let write-number = c .before .before .before .before .before .write-number in
     let n = c .before .n in
     let holds = le-leb (length (groups (args .x))) (length (args .out .now)) (pre) in
-    let bytes : Bytes (n .given .0 .0) ≡ Bytes (length (groups (args .x))) = sym (n .given .1) ∙ write-number .ensures .0 ∙ simp holds in
-    (cc, write-number .ensures .1 ∙ simp holds)
+    let bytes : _≡_ {A = ℕ × ℕ} (0, n .given .0 .0) (0, length (groups (args .x))) = sym (ap written (n .given .1)) ∙ write-number .ensures .0 ∙ simp holds in
+    (ap (λ (p : ℕ × ℕ). p .1) bytes, write-number .ensures .1 ∙ simp holds)
 
 same-length-2 : tie.Need-same-length-2
 same-length-2 c = omega arith
@@ -42,8 +41,8 @@ returns-2 c =
     let write-number = c .before .before .before .before .write-number in
     let enum-told = c .enum-told in
     let holds = le-leb (length (groups (args .x))) (length (args .out .now)) (pre) in
-    let never : Short ≡ Bytes (length (groups (args .x))) = sym (enum-told .given .1) ∙ write-number .ensures .0 ∙ simp holds in
-    absurd (let z : _≡_ {A = ℕ} 0 1 = cc in omega arith)
+    let never : _≡_ {A = ℕ × ℕ} (6, 0) (0, length (groups (args .x))) = sym (ap written (enum-told .given .1)) ∙ write-number .ensures .0 ∙ simp holds in
+    absurd (let z : _≡_ {A = ℕ} 6 0 = ap (λ (p : ℕ × ℕ). p .0) never in omega arith)
 
 pub put-spec : {M : Type 1} → statement M
 put-spec =
