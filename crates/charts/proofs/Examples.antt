@@ -14,13 +14,14 @@ use Rattle.sets.specs.Sets.{bitOf, tests, has, setOf}
 use Rattle.root.specs.Root.{rootOf}
 use Rattle.rules.specs.declared.Limits.{Limits}
 use Rattle.floats.specs.Finite.{finite, allFinite}
+use Rattle.floats.specs.Values.{decimal}
 use Rattle.rules.specs.Finite.{finiteLimits}
 use Rattle.rules.specs.Lines.{oneSigma, twoSigma, linesOf}
 use Rattle.rules.specs.Tests.{steps, alternating, window, shows}
 use Rattle.rules.specs.Marking.{newestFirst, stands, marksAt, marksOf}
+use Rattle.arith.specs.Arith.{meanOf, rangeOf, orNan, deviationOf, signCleared, movingOf}
 use Rattle.charts.specs.declared.Chart.{Chart}
-use Rattle.charts.specs.Arith.{meanOf, rangeOf, orNan, deviationOf, signCleared, movingOf}
-use Rattle.charts.specs.Factors.{decimal, factorOf}
+use Rattle.charts.specs.Factors.{factorOf}
 use Rattle.charts.specs.Records.{byKind, sizeWrong, ownWrong, recordWrong}
 use Rattle.charts.specs.Series.{bySeries, individualAt, rangePoint, deviationPoint, pointAt, pointsIn, pointsOf, seriesOf}
 use Rattle.charts.specs.Limits.{factorFor, mainLimits, lowerLimit, dispersionLimits, limitsFrom, measuredOf, measured}

@@ -1,7 +1,5 @@
 -- The laws of the charts, each file after those that it cites.
 pub mod Answers
-mod Folds
-mod Signs
 pub mod Cases
 pub mod Held
 pub mod Points

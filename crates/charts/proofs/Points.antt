@@ -6,8 +6,7 @@ use native.Mathlib.Decide.{ℕ-discrete}
 use native.Mathlib.Nat.{mul-le-mul-right, mul-le-mul-left, suc-mul, mul-one, le-trans, add-sub-cancel-left}
 use native.Mathlib.Omega.{arith}
 use mathlib.Core.Bool.{false}
-use lib.ListN.{length, take, drop, length-drop}
-use lib.Seq.{length-take-le}
+use lib.ListN.{take, drop}
 use lib.Ieee.{Float}
 use Rattle.charts.specs.declared.Chart.{Chart}
 use Rattle.charts.specs.Records.{recordWrong}
@@ -55,7 +54,6 @@ single-reach c s room i right few h e =
 
 -- of a sample
 pub record Reach (c : Chart) (room i : ℕ) : Type 0 where
-  pub some : 1 ≤ c .size
   pub most : c .size ≤ 25
   pub sample : i * c .size + c .size ≤ room
 
@@ -64,17 +62,12 @@ reach c s room i right h =
     let h-held = held c room right in
     let before : suc i ≤ c .count = omega (arith, points-most c s) in
     let ends : suc i * c .size ≤ room = le-trans (mul-le-mul-right (c .size) before) (h-held .within) in
-    record { some = h-held .figures .some; most = h-held .figures .most; sample = omega (arith, suc-mul i (c .size)) }
+    record { most = h-held .figures .most; sample = omega (arith, suc-mul i (c .size)) }
 
 -- ---- the sample as the code cuts it out
 
 pub cut : (c : Chart) (values : List Float) (i : ℕ) → take (i * c .size + c .size - i * c .size) (drop (i * c .size) values) ≡ sampleAt c values i
 cut c values i = ap (λ (n : ℕ). take n (drop (i * c .size) values)) (add-sub-cancel-left (i * c .size) (c .size))
-
-pub cut-some : (c : Chart) (values : List Float) (i : ℕ) → Reach c (length values) i
-    → 0 < length (take (i * c .size + c .size - i * c .size) (drop (i * c .size) values))
-cut-some c values i r =
-    rw (cut c values i, length-take-le (c .size) (drop (i * c .size) values) (omega (arith, length-drop (i * c .size) values))) (r .some)
 
 -- ---- the point, by kind
 

@@ -11,6 +11,7 @@ use lib.ListN.{length}
 use Rattle.laws.specs.Refusals.{firstOf}
 use Rattle.laws.proofs.Refusals.{passed, accepted}
 use Rattle.floats.specs.Finite.{allFinite}
+use Rattle.floats.specs.Values.{plusZero}
 use Rattle.charts.specs.declared.Chart.{Chart}
 use Rattle.charts.specs.declared.Refusal.{Refusal}
 use Rattle.charts.specs.declared.Estimated.{Estimated}
@@ -19,7 +20,6 @@ use Rattle.charts.specs.declared.evaluate.Tested.{Tested}
 use Rattle.charts.specs.declared.evaluate.Tested.the-variants as testing
 use Rattle.charts.specs.declared.sigma.Surveyed.{Surveyed}
 use Rattle.charts.specs.declared.sigma.Surveyed.the-variants as surveying
-use Rattle.charts.specs.Arith.{plusZero}
 use Rattle.charts.specs.Records.{number, recordWrong}
 use Rattle.charts.specs.Series.{pointsIn}
 use Rattle.charts.specs.Limits.{measured}

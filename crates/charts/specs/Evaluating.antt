@@ -12,12 +12,12 @@ use Rattle.laws.specs.Front.{atFront}
 use Rattle.sets.specs.Sets.{tests, has}
 use Rattle.rules.specs.declared.Limits.{Limits}
 use Rattle.floats.specs.Finite.{allFinite}
+use Rattle.floats.specs.Values.{plusZero}
 use Rattle.rules.specs.Terms.{under}
 use Rattle.rules.specs.Marking.{marksOf}
 use Rattle.charts.specs.declared.Chart.{Chart}
 use Rattle.charts.specs.declared.Evaluated.{Evaluated}
 use Rattle.charts.specs.declared.Evaluated.the-variants.{Done, Refused}
-use Rattle.charts.specs.Arith.{plusZero}
 use Rattle.charts.specs.Records.{number, byKind, recordWrong}
 use Rattle.charts.specs.Series.{bySeries, pointsIn, seriesOf}
 use Rattle.charts.specs.Limits.{measured}

@@ -1,14 +1,10 @@
 -- The factors (01, 'The charts'): "eight rows of twenty-four (A2, D3, D4, D2, A3, B3, B4, C4, column size - 2), copied from the source".
 -- Each is the f64 nearest to its decimal. Definitions only.
-use Prim.Native.Nat.{ℕ, _-_, _^_}
-use mathlib.Core.Bool.{false}
+use Prim.Native.Nat.{ℕ, _-_}
 use mathlib.Core.List.{List, [], _∷_, map}
-use lib.Ieee.{Float, nan, binary64, round}
+use lib.Ieee.{Float, nan}
 use lib.ListN.{getD}
-
--- n / 10^k: `decimal 3 1880` is the source's 1.880
-abbrev pub decimal : ℕ → ℕ → Float
-decimal k n = round binary64 false n (10 ^ k)
+use Rattle.floats.specs.Values.{decimal}
 
 abbrev pub factors : List (List Float)
 factors =

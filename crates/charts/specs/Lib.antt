@@ -1,5 +1,4 @@
 -- What the charts compute and answer, in the order in which to read it.
-pub mod Arith
 pub mod Factors
 pub mod Records
 pub mod Series

@@ -6,11 +6,12 @@ use lib.Dec.{eqb}
 use lib.Ieee.{Float, binary64, add, sub, mul}
 use Rattle.rules.specs.declared.Limits.{Limits}
 use Rattle.floats.specs.Finite.{allFinite}
+use Rattle.floats.specs.Values.{plusZero, decimal}
 use Rattle.rules.specs.Finite.{finiteLimits}
+use Rattle.arith.specs.Arith.{meanOf}
 use Rattle.charts.specs.declared.Chart.{Chart}
 use Rattle.charts.specs.declared.limits.Measured.{Measured}
-use Rattle.charts.specs.Arith.{plusZero, meanOf}
-use Rattle.charts.specs.Factors.{decimal, factorOf, A2, D3, D4, A3, B3, B4}
+use Rattle.charts.specs.Factors.{factorOf, A2, D3, D4, A3, B3, B4}
 use Rattle.charts.specs.Records.{byKind}
 use Rattle.charts.specs.Series.{seriesOf}
 

@@ -7,10 +7,10 @@ use lib.Ieee.{Float, nan}
 use lib.ListN.{getD, take, drop}
 use Rattle.laws.specs.Lists.{tabulate}
 use Rattle.laws.specs.Refusals.{firstOf}
+use Rattle.arith.specs.Arith.{meanOf, rangeOf, deviationOf, movingOf}
 use Rattle.charts.specs.declared.Chart.{Chart}
 use Rattle.charts.specs.declared.Lengths.{Lengths}
 use Rattle.charts.specs.declared.Lengths.the-variants.{Done, Refused}
-use Rattle.charts.specs.Arith.{meanOf, rangeOf, deviationOf, movingOf}
 use Rattle.charts.specs.Records.{number, byKind, ownWrong}
 
 -- one thing for each series

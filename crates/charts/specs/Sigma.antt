@@ -8,13 +8,13 @@ use lib.Ieee.{Float, binary64, add, sub, mul, div}
 use lib.ListN.{length}
 use Rattle.laws.specs.Refusals.{firstOf}
 use Rattle.floats.specs.Finite.{allFinite}
+use Rattle.floats.specs.Values.{plusZero, whole, decimal}
 use Rattle.charts.specs.declared.Chart.{Chart}
 use Rattle.charts.specs.declared.Figure.{Figure}
 use Rattle.charts.specs.declared.Figure.the-variants.{Done, Refused}
 use Rattle.charts.specs.declared.Estimated.{Estimated}
 use Rattle.charts.specs.declared.Estimated.the-variants as estimating
-use Rattle.charts.specs.Arith.{plusZero, whole}
-use Rattle.charts.specs.Factors.{decimal, factorOf, D4, D2, C4}
+use Rattle.charts.specs.Factors.{factorOf, D4, D2, C4}
 use Rattle.charts.specs.Records.{number, byKind, recordWrong}
 use Rattle.charts.specs.Limits.{factorFor, measured}
 use Rattle.charts.specs.Evaluating.{tooFew, storedIn}

@@ -5,12 +5,12 @@ use Prim.Native.Nat.{ℕ, _+_}
 use lib.Count.{ones}
 use lib.Ieee.{Float}
 use Rattle.laws.specs.Refusals.{firstOf}
+use Rattle.floats.specs.Values.{plusZero}
 use Rattle.charts.specs.declared.limits.Measured.{Measured}
 use Rattle.charts.specs.declared.evaluate.Tested.{Tested}
 use Rattle.charts.specs.declared.evaluate.Tested.the-variants as testing
 use Rattle.charts.specs.declared.sigma.Surveyed.{Surveyed}
 use Rattle.charts.specs.declared.sigma.Surveyed.the-variants as surveying
-use Rattle.charts.specs.Arith.{plusZero}
 use Rattle.charts.specs.Records.{number}
 use Rattle.charts.specs.Sigma.{unlessRefused}
 

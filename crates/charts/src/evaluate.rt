@@ -19,7 +19,7 @@ ghost use Rattle.laws.specs.Refusals.{firstOf};
 ghost use Rattle.laws.specs.Front.{atFront};
 ghost use Rattle.rules.specs.Terms.{under};
 ghost use Rattle.rules.specs.Marking.{marksOf, answerOf};
-ghost use Rattle.charts.specs.Arith.{plusZero};
+ghost use Rattle.floats.specs.Values.{plusZero};
 ghost use Rattle.charts.specs.Records.{recordWrong};
 ghost use Rattle.charts.specs.Series.{pointsIn, seriesOf};
 ghost use Rattle.charts.specs.Limits.{measured};

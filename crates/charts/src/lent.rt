@@ -1,7 +1,7 @@
 // Writing whole slices.
 ghost use mathlib.Core.Path.{_≡_};
 ghost use lib.ListN.{length, replicate};
-ghost use Rattle.charts.specs.Arith.{plusZero};
+ghost use Rattle.floats.specs.Values.{plusZero};
 
 // Copies a slice over another of its length.
 pub fn copy(to: &mut [f64], from: &[f64])

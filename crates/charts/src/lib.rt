@@ -1,5 +1,4 @@
 // The three variables charts: individuals with moving ranges, means with ranges, means with deviations.
-mod arith;
 mod evaluate;
 mod factors;
 mod lent;
@@ -14,7 +13,7 @@ use rules::MOST;
 use sets::RuleSet;
 ghost use mathlib.Core.Path.{_≡_};
 ghost use lib.ListN.{length};
-ghost use Rattle.charts.specs.Arith.{plusZero};
+ghost use Rattle.floats.specs.Values.{plusZero};
 ghost use Rattle.charts.specs.Records.{number, changed, noChart, newOf, withSetOf, addOf, valuesAfter};
 ghost use Rattle.charts.specs.Series.{seriesOf, lengths, pointsOf};
 ghost use Rattle.charts.specs.Evaluating.{evaluated, evaluateOf, seriesMarks, lentAfter};

@@ -2,7 +2,6 @@
 use super::Chart;
 use super::INDIVIDUALS;
 use super::X_BAR_R;
-use super::arith;
 use super::factors;
 use rules::Limits;
 ghost use mathlib.Core.Path.{_≡_};
@@ -85,5 +84,5 @@ pub fn limits_of(c: Chart, main: &[f64], dispersion: &[f64]) -> Measured
     ensures { λ r. ⌜ r ≡ measuredOf c (now (main .entry)) (now (dispersion .entry)) ⌝ }
 {
     let points = floats::all_finite(main) & floats::all_finite(dispersion);
-    limits_from(c, arith::mean(main), arith::mean(dispersion), points)
+    limits_from(c, arith::mean_of(main), arith::mean_of(dispersion), points)
 }

@@ -2,7 +2,6 @@
 use super::Chart;
 use super::INDIVIDUALS;
 use super::X_BAR_R;
-use super::arith;
 ghost use mathlib.Core.Path.{_≡_};
 ghost use mathlib.Core.Bool.{false};
 ghost use Prim.Native.Nat.{_+_, _≤_, _<_};
@@ -34,29 +33,27 @@ fn individual(series: u8, values: &[f64], i: usize) -> f64
         return values[i];
     }
     let j = i + 1;
-    arith::moving(values[i], values[j])
+    arith::moving_range(values[i], values[j])
 }
 
 // The mean of a sample, or its range.
 fn range_point(series: u8, sample: &[f64]) -> f64
-    requires { ⌜ 0 < length (now sample) ⌝ }
     ensures { λ r. ⌜ r ≡ rangePoint series (now (sample .entry)) ⌝ }
 {
     if series == 0 {
-        return arith::mean(sample);
+        return arith::mean_of(sample);
     }
-    arith::range(sample)
+    arith::range_of(sample)
 }
 
 // The mean of a sample, or its deviation.
 fn deviation_point(series: u8, sample: &[f64]) -> f64
-    requires { ⌜ 0 < length (now sample) ⌝ }
     ensures { λ r. ⌜ r ≡ deviationPoint series (now (sample .entry)) ⌝ }
 {
     if series == 0 {
-        return arith::mean(sample);
+        return arith::mean_of(sample);
     }
-    arith::deviation(sample)
+    arith::deviation_of(sample)
 }
 
 // The point at a place.

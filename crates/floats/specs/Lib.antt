@@ -1,2 +1,3 @@
--- What it means that values are finite.
+-- What it means that values are finite, and some values by name.
 pub mod Finite
+pub mod Values

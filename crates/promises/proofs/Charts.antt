@@ -8,7 +8,7 @@ use Rattle.charts.specs.declared.Chart.{Chart}
 use Rattle.charts.specs.declared.Changed.{Changed}
 use Rattle.charts.specs.declared.Evaluated.{Evaluated}
 use Rattle.charts.specs.Records.{noChart, valuesAfter}
-use Rattle.charts.specs.Arith.{plusZero}
+use Rattle.floats.specs.Values.{plusZero}
 use Rattle.charts.specs.Series.{seriesOf}
 use Rattle.charts.specs.Evaluating.{Answer, seriesMarks, lentAfter}
 use Rattle.charts.proofs.Answers.{changed-one, lengths-one, evaluated-one, estimated-one, figured-one}

@@ -3,6 +3,7 @@ pub mod Coincide
 mod Floats
 mod Groups
 mod Root
+mod Arith
 mod Sets
 mod Rules
 mod Evidence

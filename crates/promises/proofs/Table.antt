@@ -21,14 +21,15 @@ use Rattle.root.specs.declared.Rooted.the-variants as rooted
 use Rattle.root.specs.Root.{rootOf}
 use Rattle.sets.specs.Sets.{bitOf, tests, has, setOf}
 use Rattle.floats.specs.Finite.{finite, allFinite}
+use Rattle.floats.specs.Values.{plusZero}
 use Rattle.rules.specs.declared.Limits.{Limits}
 use Rattle.rules.specs.Lines.{oneSigma, twoSigma, linesOf}
 use Rattle.rules.specs.Tests.{steps, alternating, window, shows}
 use Rattle.rules.specs.Finite.{finiteLimits}
 use Rattle.rules.specs.Terms.{under}
 use Rattle.rules.specs.Marking.{newestFirst, stands, marksAt, marksOf, ahead, answerOf, marksAfter}
+use Rattle.arith.specs.Arith.{meanOf, signCleared, movingOf}
 use Rattle.charts.specs.declared.Chart.{Chart}
-use Rattle.charts.specs.Arith.{plusZero, meanOf, signCleared, movingOf}
 use Rattle.charts.specs.Factors.{factorOf}
 use Rattle.charts.specs.Records.{byKind, sizeWrong, ownWrong, recordWrong, newOf}
 use Rattle.charts.specs.Series.{bySeries, individualAt, pointAt, pointsIn, seriesOf}

@@ -17,7 +17,7 @@ use Rattle.rules.specs.Finite.{finiteLimits}
 use Rattle.rules.specs.Lines.{oneSigma, twoSigma, linesOf}
 use Rattle.rules.specs.Tests.{steps, alternating, window, shows}
 use Rattle.rules.specs.Marking.{newestFirst, stands, marksAt, marksOf}
-use Rattle.charts.specs.Arith.{meanOf, signCleared, movingOf}
+use Rattle.arith.specs.Arith.{meanOf, signCleared, movingOf}
 use Rattle.charts.specs.Records.{byKind, sizeWrong}
 use Rattle.charts.specs.Series.{bySeries, individualAt, pointAt, pointsIn, seriesOf}
 use Rattle.charts.specs.Limits.{factorFor, mainLimits, lowerLimit, dispersionLimits, limitsFrom, measuredOf, measured}

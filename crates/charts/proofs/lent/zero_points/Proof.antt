@@ -3,7 +3,7 @@ use Prim.Native.Nat.{_-_}
 use native.Mathlib.Omega.{arith}
 use lib.ListN.{length}
 use Rattle.laws.proofs.OneValue.{OneValue, one-value-starts, one-value-length, one-value-goes-on, one-value-ends}
-use Rattle.charts.specs.Arith.{plusZero}
+use Rattle.floats.specs.Values.{plusZero}
 use borrow.Author.Needs.{needs}
 use Rattle.charts.proofs.lent.zero_points.Statement.{statement}
 use Rattle.charts.proofs.lent.zero_points.Tie as tie

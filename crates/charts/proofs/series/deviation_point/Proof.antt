@@ -6,19 +6,19 @@ use borrow.Author.Needs.{needs}
 use Rattle.charts.proofs.series.deviation_point.Statement.{statement}
 use Rattle.charts.proofs.series.deviation_point.Tie as tie
 
-mean-requires : tie.Need-mean-requires
-mean-requires c κs = search needs
+mean-of-requires : tie.Need-mean-of-requires
+mean-of-requires c κs = search needs
 
 returns : tie.Need-returns
 unfolding deviationPoint
-returns c = c .mean .ensures ∙ sym (series-0 (c .before .before .before .args .series) _ _ (c .before .if1 .taken))
+returns c = c .mean-of .ensures ∙ sym (series-0 (c .before .before .before .args .series) _ _ (c .before .if1 .taken))
 
-deviation-requires : tie.Need-deviation-requires
-deviation-requires c κs = search needs
+deviation-of-requires : tie.Need-deviation-of-requires
+deviation-of-requires c κs = search needs
 
 returns-2 : tie.Need-returns-2
 unfolding deviationPoint
-returns-2 c = c .deviation .ensures ∙ sym (series-1 (c .before .before .before .args .series) _ _ (c .before .if1 .left))
+returns-2 c = c .deviation-of .ensures ∙ sym (series-1 (c .before .before .before .args .series) _ _ (c .before .if1 .left))
 
 pub deviation-point-spec : {M : Type 1} → statement M
-deviation-point-spec = tie.close (tie.spec mean-requires returns deviation-requires returns-2)
+deviation-point-spec = tie.close (tie.spec mean-of-requires returns deviation-of-requires returns-2)

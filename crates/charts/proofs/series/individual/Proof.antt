@@ -19,28 +19,28 @@ returns c = sym (series-0 (c .before .before .before .args .series) _ _ (c .befo
 add-j : tie.Need-add-j
 add-j c = search needs
 
-mul-moving : tie.Need-mul-moving
-mul-moving c = search needs
+mul-moving-range : tie.Need-mul-moving-range
+mul-moving-range c = search needs
 
-shared-slice-read-moving : tie.Need-shared-slice-read-moving
-shared-slice-read-moving c = search needs
+shared-slice-read-moving-range : tie.Need-shared-slice-read-moving-range
+shared-slice-read-moving-range c = search needs
 
-mul-moving-2 : tie.Need-mul-moving-2
-mul-moving-2 c = search needs
+mul-moving-range-2 : tie.Need-mul-moving-range-2
+mul-moving-range-2 c = search needs
 
-shared-slice-read-moving-2 : tie.Need-shared-slice-read-moving-2
-shared-slice-read-moving-2 c = search needs
+shared-slice-read-moving-range-2 : tie.Need-shared-slice-read-moving-range-2
+shared-slice-read-moving-range-2 c = search needs
 
-moving-requires : tie.Need-moving-requires
-moving-requires c κs = search needs
+moving-range-requires : tie.Need-moving-range-requires
+moving-range-requires c κs = search needs
 
 returns-2 : tie.Need-returns-2
 unfolding individualAt
 returns-2 c =
-    let moving = c .moving in
+    let moving-range = c .moving-range in
     let if1 = c .before .before .before .if1 in
     let args = c .before .before .before .before .before .args in
-    moving .ensures ∙ sym (series-1 (args .series) _ _ (if1 .left))
+    moving-range .ensures ∙ sym (series-1 (args .series) _ _ (if1 .left))
 
 pub individual-spec : {M : Type 1} → statement M
 individual-spec =
@@ -50,9 +50,9 @@ individual-spec =
     shared-slice-read-result
     returns
     add-j
-    mul-moving
-    shared-slice-read-moving
-    mul-moving-2
-    shared-slice-read-moving-2
-    moving-requires
+    mul-moving-range
+    shared-slice-read-moving-range
+    mul-moving-range-2
+    shared-slice-read-moving-range-2
+    moving-range-requires
     returns-2)

@@ -1,7 +1,7 @@
 -- `series::point` meets its contract, by kind. Assumes nothing.
 use native.Mathlib.Omega.{arith}
 use lib.ListN.{length}
-use Rattle.charts.proofs.Points.{single-reach, Reach, reach, cut-some, point-1, point-2, point-3}
+use Rattle.charts.proofs.Points.{single-reach, Reach, reach, point-1, point-2, point-3}
 use borrow.Author.Needs.{needs}
 use Rattle.charts.proofs.series.point.Statement.{statement}
 use Rattle.charts.proofs.series.point.Tie as tie
@@ -43,10 +43,7 @@ part-sample-end : tie.Need-part-sample-end
 part-sample-end c = omega (arith, sample (c .before .before .before .before .before))
 
 range-point-requires : tie.Need-range-point-requires
-range-point-requires c κs =
-    let args = c .before .before .before .before .before .before .before .before .args in
-    let start = c .before .before .before .before .before .before .before .before in
-    cut-some (args .c) (args .values .now) (args .i) (sample start)
+range-point-requires c κs = search needs
 
 returns-2 : tie.Need-returns-2
 returns-2 c =
@@ -57,10 +54,7 @@ returns-2 c =
     point-2 (args .c) (args .series) (args .values .now) (args .i) (if1 .left) (if2 .taken) (range-point .ensures)
 
 deviation-point-requires : tie.Need-deviation-point-requires
-deviation-point-requires c κs =
-    let args = c .before .before .before .before .before .before .before .before .args in
-    let start = c .before .before .before .before .before .before .before .before in
-    cut-some (args .c) (args .values .now) (args .i) (sample start)
+deviation-point-requires c κs = search needs
 
 returns-3 : tie.Need-returns-3
 returns-3 c =

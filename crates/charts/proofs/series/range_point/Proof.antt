@@ -6,19 +6,19 @@ use borrow.Author.Needs.{needs}
 use Rattle.charts.proofs.series.range_point.Statement.{statement}
 use Rattle.charts.proofs.series.range_point.Tie as tie
 
-mean-requires : tie.Need-mean-requires
-mean-requires c κs = search needs
+mean-of-requires : tie.Need-mean-of-requires
+mean-of-requires c κs = search needs
 
 returns : tie.Need-returns
 unfolding rangePoint
-returns c = c .mean .ensures ∙ sym (series-0 (c .before .before .before .args .series) _ _ (c .before .if1 .taken))
+returns c = c .mean-of .ensures ∙ sym (series-0 (c .before .before .before .args .series) _ _ (c .before .if1 .taken))
 
-range-requires : tie.Need-range-requires
-range-requires c κs = search needs
+range-of-requires : tie.Need-range-of-requires
+range-of-requires c κs = search needs
 
 returns-2 : tie.Need-returns-2
 unfolding rangePoint
-returns-2 c = c .range .ensures ∙ sym (series-1 (c .before .before .before .args .series) _ _ (c .before .if1 .left))
+returns-2 c = c .range-of .ensures ∙ sym (series-1 (c .before .before .before .args .series) _ _ (c .before .if1 .left))
 
 pub range-point-spec : {M : Type 1} → statement M
-range-point-spec = tie.close (tie.spec mean-requires returns range-requires returns-2)
+range-point-spec = tie.close (tie.spec mean-of-requires returns range-of-requires returns-2)

@@ -1,0 +1,3 @@
+-- Laws of the arithmetic.
+mod Folds
+mod Signs

@@ -1,0 +1,2 @@
+-- The charts' arithmetic.
+pub mod Arith
