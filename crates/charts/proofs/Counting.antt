@@ -1,20 +1,17 @@
 -- The number of marks: the code counts the ones of each point's marks, and those are the pairs of the point and a test. Assumes nothing.
 use mathlib.Core.Path.{_≡_, refl, sym, ap, ap₂, _∙_, fun-ext}
-use mathlib.Core.Bool.{Bool, cond, _&&_}
+use mathlib.Core.Bool.{Bool, _&&_}
 use mathlib.Core.List.{List, map}
 use Prim.Native.Nat.{ℕ, zero, suc, _+_, _-_, _≤_, _<_}
 use native.Mathlib.Nat.{sub-zero}
 use native.Mathlib.Numerals.{add-one}
 use native.Mathlib.Omega.{arith}
-use borrow.Author.Tests.{eq-eqb}
 use lib.Count.{ones}
 use lib.Ieee.{Float}
 use lib.ListN.{length, getD, take, drop, length-take, drop-of-length-le}
-use lib.Seq.{drop-cons, take-at}
+use lib.Seq.{drop-cons}
 use Rattle.laws.specs.Bools.{count}
 use Rattle.laws.specs.Lists.{tabulateFrom}
-use Rattle.laws.specs.Front.{atFront}
-use Rattle.laws.proofs.Lists.{length-tabulate}
 use Rattle.laws.proofs.FirstBits.{ones-fromBits}
 use Rattle.sets.specs.declared.Test.{Test}
 use Rattle.sets.specs.Sets.{tests, has, setOf}

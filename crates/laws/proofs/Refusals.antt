@@ -47,11 +47,6 @@ module _ {A : Type 0} where
   first-append [] ds done = refl
   first-append (c ∷ cs) ds done = ap (cond (c .0) (c .1)) (first-append cs ds done)
 
-  pub all-passed : (cs : List (Bool × A)) (done : A) → Passed cs → firstOf cs done ≡ done
-  unfolding firstOf Passed
-  all-passed [] done h = refl
-  all-passed (c ∷ cs) done h = simp (h .0) (all-passed cs done (h .1))
-
   -- what the first number gives, or what is done where there is none
   pub each-first : (gives : ℕ → A) (cs : List (Bool × ℕ)) (done : A) → numbers cs ≡ true
       → firstOf (each gives cs) done ≡ cond (eqb (firstOf cs 0) 0) done (gives (firstOf cs 0))

@@ -1,4 +1,4 @@
--- Two refusals with one number are one, and so are two answers of marking. Assumes nothing.
+-- The refusal of a number; two answers of marking with one number are one. Assumes nothing.
 use mathlib.Core.Path.{_≡_, refl, sym, ap, _∙_}
 use mathlib.Core.Bool.{cond}
 use Prim.Native.Nat.{ℕ, _<_}
@@ -20,9 +20,6 @@ refusal-again TooMany = refl
 refusal-again SetTooLarge = refl
 refusal-again NotFinite = refl
 refusal-again TooShort = refl
-
-pub number-one : (a b : Refusal) → number a ≡ number b → a ≡ b
-number-one a b e = sym (refusal-again a) ∙ ap refusalOf e ∙ refusal-again b
 
 -- a refusal's number is not 0
 pub number-above : (why : Refusal) → 0 < number why

@@ -46,6 +46,6 @@ saidFrom most top s at =
     number (λ set. leb set top) s p (λ set q.
     number (λ k. leb k n) s q (λ k r. entries s set k n r)))
 
--- 01's bounds: a sheet has as many points as a series may have values, and a set's number
+-- 01's bounds: no more points than a series may have values, and a number that is a set's
 abbrev pub said : List ℕ → Said
 said s = saidFrom most largest s 0

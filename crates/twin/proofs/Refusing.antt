@@ -12,7 +12,6 @@ use borrow.Author.Tests.{lt-ltb, le-ltb, ltb-true, ltb-false, eq-eqb, ne-eqb}
 use Rattle.laws.specs.Refusals.{firstOf}
 use Rattle.laws.specs.Front.{atFront}
 use Rattle.laws.proofs.Refusals.{passed, none-applies, accepted}
-use Rattle.sets.specs.Sets.{tooLarge}
 use Rattle.rules.specs.Terms.{Terms}
 use Rattle.rules.specs.Marking.{most, ahead, refusal, answerOf, marksOf}
 use Rattle.rules.proofs.Accepted.{answer-refused, answer-short, answer-done}

@@ -1,5 +1,5 @@
 -- `arith::range_of` meets its contract: the largest and the smallest are two folds in one loop. Assumes nothing.
-use mathlib.Core.Path.{_≡_, refl, ap₂}
+use mathlib.Core.Path.{_≡_, ap₂}
 use mathlib.Core.List.{foldl}
 use Prim.Native.Nat.{_-_}
 use native.Mathlib.Omega.{arith}

@@ -8,7 +8,7 @@ use Rattle.rules.specs.declared.Marked.{Marked}
 use Rattle.rules.specs.declared.Marked.the-variants.{Refused}
 use Rattle.rules.specs.Terms.{Terms, under}
 use Rattle.rules.specs.Marking.{numbered, refusal}
-use Rattle.rules.proofs.Accepted.{was-accepted, refusal-is, Made, made}
+use Rattle.rules.proofs.Accepted.{refusal-is, Made, made}
 use Rattle.rules.proofs.Answers.{number-above}
 use Rattle.sheets.specs.Said.{said}
 use Rattle.sheets.specs.Answers.{plain, judged}
