@@ -2,8 +2,8 @@
 mod Windows
 pub mod Columns
 mod Bitwise
-mod Making
 mod Parts
+mod Making
 mod Signs
 mod Marks
 pub mod Blocks

@@ -1,33 +1,31 @@
 -- The marks that are read off the codes of a block are its marks: from the fifteenth value on as they are, before it where the window
 -- fits. Assumes nothing.
 use mathlib.Core.Path.{_≡_, refl, sym, ap, ap₂, _∙_, fun-ext}
-use mathlib.Core.Bool.{Bool, true, false, _&&_, _||_}
+use mathlib.Core.Bool.{Bool, true, false}
 use mathlib.Core.List.{List, _++_, append-assoc}
 use Prim.Native.Nat.{ℕ, zero, suc, _+_, _-_, _≤_, _<_}
-use native.Mathlib.Nat.{le-of-suc-le-suc}
+use native.Mathlib.Nat.{zero-add, sub-zero, le-of-suc-le-suc}
 use native.Mathlib.Omega.{arith}
 use borrow.Author.Tests.{ltb-true, ltb-false}
 use lib.Bits.{bitAnd}
 use lib.Dec.{ltb}
 use lib.Ieee.{Float, nan}
-use lib.ListN.{length, take, drop, getD, length-drop, List·getD-append, take-append-drop}
-use lib.Seq.{ext-getD, getD-append-add, getD-drop, length-take-le, drop-append-le}
-use Rattle.laws.specs.Bits.{hasBit, fromBits}
+use lib.ListN.{length, take, drop, getD, length-drop, set, List·getD-append, take-append-drop}
+use lib.Seq.{ext-getD, getD-drop, drop-append-le}
+use Rattle.laws.specs.Bits.{fromBits}
 use Rattle.laws.specs.Lists.{tabulateFrom, tabulate}
 use Rattle.laws.specs.Front.{atFront}
 use Rattle.laws.proofs.Lists.{length-tabulate, getD-tabulate, same-tabulate, take-tabulate}
-use Rattle.laws.proofs.Lending.{lent, regained}
-use Rattle.laws.proofs.Bits.{has-and}
-use Rattle.laws.proofs.OneBit.{no-bit}
-use Rattle.sets.specs.declared.Test.{Test}
-use Rattle.sets.specs.Sets.{bitOf, tests, has, setOf}
-use Rattle.sets.proofs.Sets.{agree, and-setOf}
+use Rattle.laws.proofs.Filling.{Tabling, tabling-goes-on}
+use Rattle.laws.proofs.Lending.{regained}
+use Rattle.sets.specs.Sets.{bitOf, tests, setOf}
 use Rattle.rules.specs.declared.Lines.{Lines}
 use Rattle.rules.specs.Tests.{window}
 use Rattle.rules.specs.Marking.{newestFirst, marksAt}
-use Rattle.rules.specs.Columns.{judge, ruleOf, readOff, fitting}
-use Rattle.rules.specs.Codes.{codeAt, codesOf, lastOf, column, downBit, readCodes, marksRead, fitsAt}
+use Rattle.rules.specs.Columns.{fitting}
+use Rattle.rules.specs.Codes.{codeAt, CodesOf, lastOf, column, downBit, readCodes, marksRead, fitsAt}
 use Rattle.rules.proofs.Columns.{reads-marks, reads-far}
+use Rattle.rules.proofs.Parts.{regained-at}
 use Rattle.rules.proofs.Signs.{length-newest, codes-show}
 
 -- ---- the last entries of a list
@@ -75,55 +73,19 @@ module _ (f g h : ℕ → ℕ) (k n : ℕ) (old : List ℕ) (few : k ≤ n)
       ∙ sym (append-assoc (take k (tabulate h n)) (drop k (tabulate h n)) rest)
       ∙ ap₂ (λ (xs : List ℕ) (m : ℕ). xs ++ drop m old) (take-append-drop k (tabulate h n)) (length-tabulate g n ∙ sym (length-tabulate h n))
 
--- ---- a set of runs alone
+-- ---- the marks read, one after the other
 
--- of two masks that have every test together, the second of which shares none with the set, the first leaves it as it is
-masked : (a b c : Bool) → (b || c) ≡ true → (a && c) ≡ false → (a && b) ≡ a
-masked false b c h q = refl
-masked true true c h q = refl
-masked true false c h q = sym q ∙ h
-
-module _ (set : ℕ) (none : bitAnd set 56 ≡ 0) where
-  has-runs : (t : Test) → has (bitAnd set 455) t ≡ has set t
-  unfolding has
-  has-runs t =
-      has-and set 455 (bitOf t)
-      ∙ masked (hasBit set (bitOf t)) (hasBit 455 (bitOf t)) (hasBit 56 (bitOf t)) either
-      (sym (has-and set 56 (bitOf t)) ∙ ap (λ (n : ℕ). hasBit n (bitOf t)) none ∙ no-bit (bitOf t))
-    where
-      either : (hasBit 455 (bitOf t) || hasBit 56 (bitOf t)) ≡ true
-      either = unfold tests bitOf hasBit in agree (λ (u : Test). hasBit 455 (bitOf u) || hasBit 56 (bitOf u)) (λ (u : Test). true) true refl t
-
-  same-runs : (cs : List ℕ) (i : ℕ) → marksRead (bitAnd set 455) cs i ≡ marksRead set cs i
-  same-runs cs i =
-      let p : Test → Bool = λ t. judge (ruleOf t) (column (bitOf t) (lastOf cs i 15)) (column (downBit t) (lastOf cs i 15)) in
-      let read : (m : ℕ) → marksRead m cs i ≡ bitAnd m (setOf p) = λ m. unfold marksRead readCodes readOff setOf in refl in
-      read (bitAnd set 455)
-      ∙ and-setOf (bitAnd set 455) p
-      ∙ ap setOf (fun-ext (λ t. ap (λ (b : Bool). b && p t) (has-runs t)))
-      ∙ sym (and-setOf set p)
-      ∙ sym (read set)
-
-  pub runs-read : (cs old out : List ℕ) (m : ℕ) → out ≡ atFront (tabulate (marksRead (bitAnd set 455) cs) m) old → out ≡ atFront (tabulate (marksRead set cs) m) old
-  runs-read cs old out m e = e ∙ ap (λ (f : ℕ → ℕ). atFront (tabulate f m) old) (fun-ext (same-runs cs))
+pub reads-on : (mask : ℕ) (cs : List ℕ) (m : ℕ) (old now : List ℕ) (i : ℕ) → Tabling (marksRead mask cs) m old now i → i < m
+    → (x : ℕ) → x ≡ fromBits (readCodes (lastOf cs i 15)) → Tabling (marksRead mask cs) m old (set now i (bitAnd mask x)) (i + 1)
+unfolding marksRead
+reads-on mask cs m old now i t h x e = tabling-goes-on (marksRead mask cs) m old now i t (bitAnd mask x) h (ap (bitAnd mask) e)
 
 -- ---- the codes in their room
 
 -- the part of c from i on was lent, and the codes of a series put at its front
-pub codes-there : (set : ℕ) (l : Lines) (values : List Float) (c part : List ℕ) (i : ℕ) → i ≤ length c → part ≡ atFront (codesOf set l values) (lent c i)
+pub codes-there : (set : ℕ) (l : Lines) (values : List Float) (c part : List ℕ) (i : ℕ) → i ≤ length c → CodesOf set l values part
     → (j : ℕ) → j < length values → getD (regained c i part) (i + j) 0 ≡ codeAt set l (getD values 0 nan) values j
-unfolding codesOf
-codes-there set l values c part i h e j q =
-    let made = tabulate (codeAt set l (getD values 0 nan) values) (length values) in
-    let back = drop (length c - i) (drop i c) in
-    let left = drop (length made) (lent c i) in
-    let many : j < length made = omega (arith, length-tabulate (codeAt set l (getD values 0 nan) values) (length values)) in
-    ap (λ (k : ℕ). getD (take i c ++ (part ++ back)) (k + j) 0) (sym (length-take-le i c h))
-    ∙ getD-append-add (take i c) (part ++ back) j 0
-    ∙ ap (λ (xs : List ℕ). getD (xs ++ back) j 0) e
-    ∙ ap (λ (xs : List ℕ). getD xs j 0) (append-assoc made left back)
-    ∙ List·getD-append made (left ++ back) 0 j many
-    ∙ getD-tabulate (codeAt set l (getD values 0 nan) values) (length values) j 0 q
+codes-there set l values c part i h made j q = regained-at c i part h j ∙ made .at j q
 
 -- ---- the marks of a block, before which the first p of the values come
 
@@ -177,3 +139,7 @@ module _ (set : ℕ) (l : Lines) (values : List Float) (p : ℕ) (cs : List ℕ)
           by : (b : Bool) → ltb i (14 - p) ≡ b → 14 ≤ p + i
           by true e = absurd (omega (arith, all i (ltb-true i (14 - p) e) q))
           by false e = omega (arith, ltb-false i (14 - p) e)
+
+-- a block before which nothing comes
+pub one-block : (f : ℕ → ℕ) (n : ℕ) (old now : List ℕ) → now ≡ atFront (tabulate (λ i. f (0 + i)) (n - 0)) old → now ≡ atFront (tabulate f n) old
+one-block f n old now e = e ∙ ap₂ (λ (g : ℕ → ℕ) (m : ℕ). atFront (tabulate g m) old) (fun-ext (λ i. ap f (zero-add i))) (sub-zero n)

@@ -1,11 +1,12 @@
 -- A table that is written from the front part by part: what is left of the slice is lent, and the next entries are put at its front.
 -- Assumes nothing.
 use mathlib.Core.Path.{_≡_, sym, ap, _∙_}
-use mathlib.Core.List.{List, _++_}
+use mathlib.Core.List.{List, _++_, append-nil}
 use Prim.Native.Nat.{ℕ, _+_, _-_, _≤_, _<_}
+use native.Mathlib.Nat.{le-of-eq}
 use native.Mathlib.Omega.{arith}
-use lib.ListN.{length, take, drop, length-drop, take-append-drop}
-use lib.Seq.{ext-getD, getD-take, getD-drop, length-take-le}
+use lib.ListN.{length, take, drop, getD, length-drop, drop-of-length-le, List·getD-append, take-append-drop}
+use lib.Seq.{ext-getD, getD-append-add, getD-take, getD-drop, length-take-le, take-all}
 use Rattle.laws.specs.Lists.{tabulate}
 use Rattle.laws.specs.Front.{atFront}
 use Rattle.laws.proofs.Lists.{length-tabulate, getD-tabulate}
@@ -14,6 +15,32 @@ use Rattle.laws.proofs.Lending.{lent, regained, lent-fills}
 
 pub part-long : {A : Type 0} (xs : List A) (i e : ℕ) → e ≤ length xs → length (take (e - i) (drop i xs)) ≡ e - i
 part-long xs i e h = length-take-le (e - i) (drop i xs) (omega (arith, length-drop i xs))
+
+-- the sixteen entries that end at e
+module _ {A : Type 0} (xs : List A) (e : ℕ) (many : 16 ≤ e) (within : e ≤ length xs) where
+  pub sixteen-long : length (take (e - (e - 16)) (drop (e - 16) xs)) ≡ 16
+  sixteen-long = omega (arith, part-long xs (e - 16) e within)
+
+  pub sixteen-room : 16 ≤ length (lent xs (e - 16))
+  sixteen-room = omega (arith, part-long xs (e - 16) (length xs) (omega arith))
+
+-- what was lent from i on, and what stands there once it is regained
+module _ (now : List ℕ) (i : ℕ) where
+  pub lent-at : (j : ℕ) → getD (lent now i) j 0 ≡ getD now (i + j) 0
+  lent-at j = ap (λ (xs : List ℕ). getD xs j 0) (take-all (length now - i) (drop i now) (le-of-eq (length-drop i now))) ∙ getD-drop i now j 0
+
+  module _ (part : List ℕ) (h : i ≤ length now) where
+    pub regained-at : (j : ℕ) → getD (regained now i part) (i + j) 0 ≡ getD part j 0
+    regained-at j =
+        let none = drop-of-length-le (drop i now) (le-of-eq (length-drop i now)) in
+        ap (λ (xs : List ℕ). getD (take i now ++ (part ++ xs)) (i + j) 0) none
+        ∙ ap (λ (xs : List ℕ). getD (take i now ++ xs) (i + j) 0) (append-nil part)
+        ∙ ap (λ (k : ℕ). getD (take i now ++ part) (k + j) 0) (sym (length-take-le i now h))
+        ∙ getD-append-add (take i now) part j 0
+
+    pub regained-before : (j : ℕ) → j < i → getD (regained now i part) j 0 ≡ getD now j 0
+    regained-before j q =
+        List·getD-append (take i now) _ 0 j (omega (arith, length-take-le i now h)) ∙ getD-take i now j 0 q
 
 -- the m entries from i on of a table are a table
 table-part : (f g : ℕ → ℕ) (n i m : ℕ) → i + m ≤ n → ((j : ℕ) → j < m → g j ≡ f (i + j)) → tabulate g m ≡ take m (drop i (tabulate f n))

@@ -2,13 +2,13 @@
 -- are the bits of the fifteen codes that end there. Nothing here has to be believed: the proofs tie it to Marking.antt. Definitions only.
 use mathlib.Core.Bool.{Bool, not, _&&_, _||_, cond}
 use mathlib.Core.List.{List, [], _∷_, map}
-use Prim.Native.Nat.{ℕ, zero, suc, _+_}
-use lib.Dec.{eqb}
+use mathlib.Core.Path.{_≡_}
+use Prim.Native.Nat.{ℕ, zero, suc, _+_, _<_}
+use lib.Dec.{eqb, ltb}
 use lib.Bits.{bitAnd, bitOr}
 use lib.Ieee.{Float, nan, le}
 use lib.ListN.{length, getD}
 use Rattle.laws.specs.Bits.{hasBit, fromBits}
-use Rattle.laws.specs.Lists.{tabulate}
 use Rattle.sets.specs.declared.Test.{Test}
 use Rattle.sets.specs.declared.Test.the-variants.{BeyondLimits, NineOneSide, SixTrend, FourteenAlternating, TwoOfThreeBeyond2Sigma, FourOfFiveBeyond1Sigma, FifteenWithin1Sigma, EightBeyond1Sigma, EightOneSide}
 use Rattle.sets.specs.Sets.{bitOf}
@@ -48,9 +48,17 @@ stepAt need u vs i = picked need (stepCode (getD (u ∷ vs) i nan) (getD vs i na
 abbrev pub asks : ℕ → ℕ → Bool
 asks set family = not (eqb (bitAnd set family) 0)
 
--- sixteen codes with f of its place put into each
-unfoldable pub added : (ℕ → ℕ) → List ℕ → List ℕ
-added f k = tabulate (λ i. bitOr (getD k i 0) (f i)) 16
+-- the first n codes are f of their place
+pub record Coded (f : ℕ → ℕ) (n : ℕ) (cs : List ℕ) : Type 0 where
+  pub at : (i : ℕ) → i < n → getD cs i 0 ≡ f i
+
+-- f of its place was put into each of the first n codes, which were `old`
+pub record Added (f : ℕ → ℕ) (n : ℕ) (old now : List ℕ) : Type 0 where
+  pub at : (i : ℕ) → getD now i 0 ≡ bitOr (getD old i 0) (picked (ltb i n) (f i))
+
+-- room for codes in which no bit is set
+pub record Clear (cs : List ℕ) : Type 0 where
+  pub at : (i : ℕ) → getD cs i 0 ≡ 0
 
 -- The code of the value v after u, of the families that are asked for: the limits, the centre line, two sigma, one sigma, within one sigma,
 -- the steps. The signal of one way has the bit of its test, that of the other way the bit eight places above; eight on one side have bits
@@ -69,9 +77,9 @@ codeOf asked l u v =
 abbrev pub codeAt : ℕ → Lines → Float → List Float → ℕ → ℕ
 codeAt set l u vs i = codeOf (asks set) l (getD (u ∷ vs) i nan) (getD vs i nan)
 
--- the codes of a series; its first value comes after itself, so that it neither rises nor falls
-unfoldable pub codesOf : ℕ → Lines → List Float → List ℕ
-codesOf set l values = tabulate (codeAt set l (getD values 0 nan) values) (length values)
+-- the first codes are those of a series; its first value comes after itself, so that it neither rises nor falls
+abbrev pub CodesOf : ℕ → Lines → List Float → List ℕ → Type 0
+CodesOf set l values cs = Coded (codeAt set l (getD values 0 nan) values) (length values) cs
 
 -- ---- the tests of a position
 

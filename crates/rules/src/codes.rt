@@ -2,14 +2,15 @@
 // it. The marks of a position are ands and ors of the fifteen codes that end there, so all tests are read off at once, and
 // neither making nor reading codes branches on a value: several values go through each instruction.
 //
-// - `group` makes the codes of sixteen values, family by family (a family is a pair of lines, or the steps), and skips the
-//   families that the set has no test of; `codes` does so for any number of values, the last of them padded.
+// - `zones`, `insides` and `steps` put the bits of a family (a pair of lines, or the steps) into the codes of all values, sixteen
+//   at a time, and do nothing for a family that the set has no test of; `families` goes through all six.
 // - `standing` reads the tests off fifteen codes. What stands before the first value is free: `fit` takes from the first
 //   fourteen marks the tests whose window does not fit there.
-// - `blocks` marks some 500 positions at a time, in one room of codes, by their values and the fourteen before them; `fill`
-//   gives short series a small room, and a set of the first test alone a loop without codes.
+// - `block` marks up to some 500 positions in a room of codes that is clear, by their values and the fourteen before them; `fill`
+//   gives short series one block with a small room, and a set of the first test alone a loop without codes.
 use super::Lines;
 ghost use mathlib.Core.Path.{_≡_};
+ghost use mathlib.Core.Bool.{true};
 ghost use mathlib.Core.List.{[], _∷_};
 ghost use Prim.Native.Nat.{ℕ, _+_, _-_, _≤_, _<_};
 ghost use lib.Bits.{bitAnd};
@@ -19,7 +20,7 @@ ghost use Rattle.laws.specs.Bits.{fromBits};
 ghost use Rattle.laws.specs.Lists.{tabulate};
 ghost use Rattle.laws.specs.Front.{atFront};
 ghost use Rattle.rules.specs.Marking.{marksAt, marksBy};
-ghost use Rattle.rules.specs.Codes.{picked, zoneCode, insideCode, stepCode, zoneAt, insideAt, stepAt, added, codeAt, codesOf, packedBits, readCodes, lastOf, marksRead, fitsAt};
+ghost use Rattle.rules.specs.Codes.{picked, zoneCode, insideCode, stepCode, zoneAt, insideAt, stepAt, Coded, Added, Clear, CodesOf, packedBits, readCodes, lastOf, marksRead, fitsAt};
 
 // The tests of each family.
 const LIMITS: u16 = 0b0_0000_0001;
@@ -34,10 +35,8 @@ const ONE_SIGMA: u16 = 0b0_1010_0000;
 
 const INSIDE: u16 = 0b0_0100_0000;
 
-// The tests that a run of one signal shows, and those that want every other code, or most of some.
-const RUNS: u16 = 0b1_1100_0111;
-
-const MIXED: u16 = 0b0_0011_1000;
+// The tests that a run of at most nine codes shows.
+const RUNS: u16 = 0b1_1000_0111;
 
 fn pick(b: bool, k: u16) -> u16
     ensures { λ r. ⌜ r ≡ picked b k ⌝ }
@@ -69,24 +68,13 @@ fn step_code(u: f64, v: f64) -> u16
     pick(u < v, 0x000c) | pick(v < u, 0x0c00)
 }
 
-// How sixteen values lie outside two lines, put into their codes where a test asks for it. The codes go by value, and not behind
-// a reference: then nothing that is written can be one of the values, and LLVM compares and packs eight of them at a time.
-fn zones(
-    need: bool,
-    high: f64,
-    low: f64,
-    up: u16,
-    down: u16,
-    v: &[f64],
-    mut k: [u16; 16],
-) -> [u16; 16]
-    requires { ⌜ (length (now v) ≡ 16) × (length k ≡ 16) ⌝ }
-    ensures codes { λ r. ⌜ r ≡ added (zoneAt need high low up down (now (v .entry))) k ⌝ }
-    ensures sixteen { λ r. ⌜ length r ≡ 16 ⌝ }
+// How sixteen values lie outside two lines. The codes go into an array of their own, and not into a slice: then nothing that is
+// written can be one of the values, and LLVM compares and packs eight of them at a time.
+fn zones_of(high: f64, low: f64, up: u16, down: u16, v: &[f64]) -> [u16; 16]
+    requires { ⌜ length (now v) ≡ 16 ⌝ }
+    ensures { λ r. ⌜ Coded (zoneAt true high low up down (now (v .entry))) 16 r ⌝ }
 {
-    if !need {
-        return k;
-    }
+    let mut k = [0u16; 16];
     let mut j = 0;
     while j < 16 {
         let x = v[j];
@@ -97,14 +85,11 @@ fn zones(
 }
 
 // Whether they lie outside neither.
-fn insides(need: bool, high: f64, low: f64, v: &[f64], mut k: [u16; 16]) -> [u16; 16]
-    requires { ⌜ (length (now v) ≡ 16) × (length k ≡ 16) ⌝ }
-    ensures codes { λ r. ⌜ r ≡ added (insideAt need high low (now (v .entry))) k ⌝ }
-    ensures sixteen { λ r. ⌜ length r ≡ 16 ⌝ }
+fn insides_of(high: f64, low: f64, v: &[f64]) -> [u16; 16]
+    requires { ⌜ length (now v) ≡ 16 ⌝ }
+    ensures { λ r. ⌜ Coded (insideAt true high low (now (v .entry))) 16 r ⌝ }
 {
-    if !need {
-        return k;
-    }
+    let mut k = [0u16; 16];
     let mut j = 0;
     while j < 16 {
         let x = v[j];
@@ -115,14 +100,11 @@ fn insides(need: bool, high: f64, low: f64, v: &[f64], mut k: [u16; 16]) -> [u16
 }
 
 // How each lies to the one before it; `first` comes before the first.
-fn steps(need: bool, first: f64, v: &[f64], mut k: [u16; 16]) -> [u16; 16]
-    requires { ⌜ (length (now v) ≡ 16) × (length k ≡ 16) ⌝ }
-    ensures codes { λ r. ⌜ r ≡ added (stepAt need first (now (v .entry))) k ⌝ }
-    ensures sixteen { λ r. ⌜ length r ≡ 16 ⌝ }
+fn steps_of(first: f64, v: &[f64]) -> [u16; 16]
+    requires { ⌜ length (now v) ≡ 16 ⌝ }
+    ensures { λ r. ⌜ Coded (stepAt true first (now (v .entry))) 16 r ⌝ }
 {
-    if !need {
-        return k;
-    }
+    let mut k = [0u16; 16];
     let mut u = first;
     let mut j = 0;
     while j < 16 {
@@ -134,34 +116,122 @@ fn steps(need: bool, first: f64, v: &[f64], mut k: [u16; 16]) -> [u16; 16]
     k
 }
 
-// The codes of sixteen values, before the first of which u comes.
-fn group(set: u16, l: Lines, u: f64, v: &[f64]) -> [u16; 16]
-    requires { ⌜ length (now v) ≡ 16 ⌝ }
-    ensures { λ r. ⌜ r ≡ tabulate (codeAt set l u (now (v .entry))) 16 ⌝ }
+// Puts sixteen codes into those at the front of `c`.
+fn join(k: &[u16; 16], c: &mut [u16])
+    requires { ⌜ 16 ≤ length (now c) ⌝ }
+    ensures { λ _. ⌜ Added (λ j. getD (now (k .entry)) j 0) 16 (now (c .entry)) (now (c .exit)) ⌝ }
 {
-    let none = [0u16; 16];
-    let limits = zones(set & LIMITS != 0, l.ucl, l.lcl, 0x0001, 0x0001, v, none);
-    let centre = zones(set & CENTRE != 0, l.cl, l.cl, 0x0102, 0x4200, v, limits);
-    let two = zones(
+    let mut j = 0;
+    while j < 16 {
+        c[j] = c[j] | k[j];
+        j += 1;
+    }
+}
+
+// Where the next of the sixteens into which n values are cut ends, behind i of them. The last sixteen end with the values, so they
+// may begin before i: to put a bit into a code twice is to put it in once.
+fn next(i: usize, n: usize) -> usize
+    requires { ⌜ (i < n) × (16 ≤ n) ⌝ }
+    ensures { λ r. ⌜ (i < r) × (r ≤ n) × (16 ≤ r) × (r ≤ i + 16) ⌝ }
+{
+    if n - i < 16 {
+        return n;
+    }
+    i + 16
+}
+
+// The value before that at i; the first value comes after itself, so that it neither rises nor falls.
+fn before(values: &[f64], i: usize) -> f64
+    requires { ⌜ i < length (now values) ⌝ }
+    ensures { λ r. ⌜ r ≡ getD (getD (now (values .entry)) 0 nan ∷ now (values .entry)) i nan ⌝ }
+{
+    if i == 0 {
+        return values[0];
+    }
+    values[i - 1]
+}
+
+// How all values lie outside two lines, put into their codes where a test asks for it.
+fn zones(need: bool, high: f64, low: f64, up: u16, down: u16, values: &[f64], c: &mut [u16])
+    requires { ⌜ (16 ≤ length (now values)) × (length (now values) ≤ length (now c)) ⌝ }
+    ensures { λ _. ⌜ Added (zoneAt need high low up down (now (values .entry))) (length (now (values .entry))) (now (c .entry)) (now (c .exit)) ⌝ }
+{
+    if !need {
+        return;
+    }
+    let n = values.len();
+    let mut i = 0;
+    while i < n {
+        let e = next(i, n);
+        let s = e - 16;
+        join(&zones_of(high, low, up, down, &values[s..e]), &mut c[s..]);
+        i = e;
+    }
+}
+
+// Whether they lie outside neither.
+fn insides(need: bool, high: f64, low: f64, values: &[f64], c: &mut [u16])
+    requires { ⌜ (16 ≤ length (now values)) × (length (now values) ≤ length (now c)) ⌝ }
+    ensures { λ _. ⌜ Added (insideAt need high low (now (values .entry))) (length (now (values .entry))) (now (c .entry)) (now (c .exit)) ⌝ }
+{
+    if !need {
+        return;
+    }
+    let n = values.len();
+    let mut i = 0;
+    while i < n {
+        let e = next(i, n);
+        let s = e - 16;
+        join(&insides_of(high, low, &values[s..e]), &mut c[s..]);
+        i = e;
+    }
+}
+
+// How each lies to the one before it.
+fn steps(need: bool, values: &[f64], c: &mut [u16])
+    requires { ⌜ (16 ≤ length (now values)) × (length (now values) ≤ length (now c)) ⌝ }
+    ensures { λ _. ⌜ Added (stepAt need (getD (now (values .entry)) 0 nan) (now (values .entry))) (length (now (values .entry))) (now (c .entry)) (now (c .exit)) ⌝ }
+{
+    if !need {
+        return;
+    }
+    let n = values.len();
+    let mut i = 0;
+    while i < n {
+        let e = next(i, n);
+        let s = e - 16;
+        join(&steps_of(before(values, s), &values[s..e]), &mut c[s..]);
+        i = e;
+    }
+}
+
+// What all families put into codes that are clear.
+fn families(set: u16, l: Lines, values: &[f64], c: &mut [u16])
+    requires { ⌜ (16 ≤ length (now values)) × (length (now values) ≤ length (now c)) × Clear (now c) ⌝ }
+    ensures { λ _. ⌜ CodesOf set l (now (values .entry)) (now (c .exit)) ⌝ }
+{
+    zones(set & LIMITS != 0, l.ucl, l.lcl, 0x0001, 0x0001, values, c);
+    zones(set & CENTRE != 0, l.cl, l.cl, 0x0102, 0x4200, values, c);
+    zones(
         set & TWO_SIGMA != 0,
         l.above2,
         l.below2,
         0x0010,
         0x1000,
-        v,
-        centre,
+        values,
+        c,
     );
-    let one = zones(
+    zones(
         set & ONE_SIGMA != 0,
         l.above1,
         l.below1,
         0x00a0,
         0x2080,
-        v,
-        two,
+        values,
+        c,
     );
-    let inside = insides(set & INSIDE != 0, l.above1, l.below1, v, one);
-    steps(set & STEPS != 0, u, v, inside)
+    insides(set & INSIDE != 0, l.above1, l.below1, values, c);
+    steps(set & STEPS != 0, values, c);
 }
 
 // Up to sixteen values at the front of sixteen.
@@ -177,41 +247,18 @@ fn pad(values: &[f64], v: &mut [f64; 16])
     }
 }
 
-// The first m of sixteen codes at the front of `c`.
-fn put(k: &[u16; 16], m: usize, c: &mut [u16])
-    requires { ⌜ (m ≤ 16) × (m ≤ length (now c)) ⌝ }
-    ensures { λ _. ⌜ now (c .exit) ≡ atFront (tabulate (λ j. getD (now (k .entry)) j 0) m) (now (c .entry)) ⌝ }
+// The codes of every value, from the front of `c` on, which is clear. Fewer than sixteen are padded.
+fn codes(set: u16, l: Lines, values: &[f64], c: &mut [u16])
+    requires { ⌜ (16 ≤ length (now c)) × (length (now values) ≤ length (now c)) × Clear (now c) ⌝ }
+    ensures { λ _. ⌜ CodesOf set l (now (values .entry)) (now (c .exit)) ⌝ }
 {
-    let mut j = 0;
-    while j < m {
-        c[j] = k[j];
-        j += 1;
-    }
-}
-
-// The codes of up to sixteen values, before the first of which u comes, at the front of `c`. Sixteen go the short way.
-fn next_codes(set: u16, l: Lines, u: f64, values: &[f64], c: &mut [u16])
-    requires { ⌜ (length (now values) ≤ 16) × (length (now values) ≤ length (now c)) ⌝ }
-    ensures { λ _. ⌜ now (c .exit) ≡ atFront (tabulate (codeAt set l u (now (values .entry))) (length (now (values .entry)))) (now (c .entry)) ⌝ }
-{
-    if values.len() == 16 {
-        put(&group(set, l, u, values), values.len(), c);
+    if values.len() < 16 {
+        let mut v = [0.0f64; 16];
+        pad(values, &mut v);
+        families(set, l, &v[0..16], c);
         return;
     }
-    let mut v = [0.0f64; 16];
-    pad(values, &mut v);
-    put(&group(set, l, u, &v[0..16]), values.len(), c);
-}
-
-// The value before that at i; the first value comes after itself, so that it neither rises nor falls.
-fn before(values: &[f64], i: usize) -> f64
-    requires { ⌜ i < length (now values) ⌝ }
-    ensures { λ r. ⌜ r ≡ getD (getD (now (values .entry)) 0 nan ∷ now (values .entry)) i nan ⌝ }
-{
-    if i == 0 {
-        return values[0];
-    }
-    values[i - 1]
+    families(set, l, values, c);
 }
 
 // The smaller of two.
@@ -222,20 +269,6 @@ fn least(a: usize, b: usize) -> usize
         return a;
     }
     b
-}
-
-// The codes of every value at the front of `c`.
-fn codes(set: u16, l: Lines, values: &[f64], c: &mut [u16])
-    requires { ⌜ length (now values) ≤ length (now c) ⌝ }
-    ensures { λ _. ⌜ now (c .exit) ≡ atFront (codesOf set l (now (values .entry))) (now (c .entry)) ⌝ }
-{
-    let n = values.len();
-    let mut i = 0;
-    while i < n {
-        let e = i + least(n - i, 16);
-        next_codes(set, l, before(values, i), &values[i..e], &mut c[i..]);
-        i = e;
-    }
 }
 
 // The tests by their bits: of two signals, one and the one eight places above.
@@ -326,14 +359,38 @@ fn read_all(set: u16, c: &[u16], m: usize, out: &mut [u16])
     }
 }
 
-// Those of runs alone: the mask is written here, so that LLVM leaves out what only the other tests are for.
+// Those of short runs alone: the mask is written here, so that LLVM leaves out what only the other tests are for.
 fn read_runs(set: u16, c: &[u16], m: usize, out: &mut [u16])
     requires { ⌜ (m + 14 ≤ length (now c)) × (m ≤ length (now out)) ⌝ }
-    ensures { λ _. ⌜ now (out .exit) ≡ atFront (tabulate (marksRead (bitAnd set 455) (now (c .entry))) m) (now (out .entry)) ⌝ }
+    ensures { λ _. ⌜ now (out .exit) ≡ atFront (tabulate (marksRead (bitAnd set 391) (now (c .entry))) m) (now (out .entry)) ⌝ }
 {
     let mut i = 0;
     while i < m {
         out[i] = (set & RUNS) & standing_at(c, i);
+        i += 1;
+    }
+}
+
+// Those of the test within one sigma alone.
+fn read_inside(set: u16, c: &[u16], m: usize, out: &mut [u16])
+    requires { ⌜ (m + 14 ≤ length (now c)) × (m ≤ length (now out)) ⌝ }
+    ensures { λ _. ⌜ now (out .exit) ≡ atFront (tabulate (marksRead (bitAnd set 64) (now (c .entry))) m) (now (out .entry)) ⌝ }
+{
+    let mut i = 0;
+    while i < m {
+        out[i] = (set & INSIDE) & standing_at(c, i);
+        i += 1;
+    }
+}
+
+// Those of the steps alone.
+fn read_steps(set: u16, c: &[u16], m: usize, out: &mut [u16])
+    requires { ⌜ (m + 14 ≤ length (now c)) × (m ≤ length (now out)) ⌝ }
+    ensures { λ _. ⌜ now (out .exit) ≡ atFront (tabulate (marksRead (bitAnd set 12) (now (c .entry))) m) (now (out .entry)) ⌝ }
+{
+    let mut i = 0;
+    while i < m {
+        out[i] = (set & STEPS) & standing_at(c, i);
         i += 1;
     }
 }
@@ -343,11 +400,19 @@ fn read_marks(set: u16, c: &[u16], m: usize, out: &mut [u16])
     requires { ⌜ (m + 14 ≤ length (now c)) × (m ≤ length (now out)) ⌝ }
     ensures { λ _. ⌜ now (out .exit) ≡ atFront (tabulate (marksRead set (now (c .entry))) m) (now (out .entry)) ⌝ }
 {
-    if set & MIXED != 0 {
-        read_all(set, c, m, out);
+    if set & RUNS == set {
+        read_runs(set, c, m, out);
         return;
     }
-    read_runs(set, c, m, out);
+    if set & INSIDE == set {
+        read_inside(set, c, m, out);
+        return;
+    }
+    if set & STEPS == set {
+        read_steps(set, c, m, out);
+        return;
+    }
+    read_all(set, c, m, out);
 }
 
 // The tests whose window fits at each of the first fourteen positions.
@@ -373,16 +438,17 @@ fn fit(from: usize, k: usize, out: &mut [u16])
     requires { ⌜ (from + k ≤ 14) × (k ≤ length (now out)) ⌝ }
     ensures { λ _. ⌜ now (out .exit) ≡ atFront (tabulate (λ i. bitAnd (getD (now (out .entry)) i 0) (fitsAt (from + i))) k) (now (out .entry)) ⌝ }
 {
+    let fits = FITS;
     let mut i = 0;
     while i < k {
-        out[i] = out[i] & FITS[from + i];
+        out[i] = out[i] & fits[from + i];
         i += 1;
     }
 }
 
-// The marks of a block, before which come the first p of the values, at most fourteen; `c` is room for codes.
+// The marks of a block, before which come the first p of the values, at most fourteen; `c` is room for codes, which is clear.
 fn block(l: Lines, set: u16, values: &[f64], p: usize, c: &mut [u16], out: &mut [u16])
-    requires { ⌜ (p ≤ 14) × (p ≤ length (now values)) × (length (now values) + 14 ≤ length (now c) + p) × (length (now values) ≤ length (now out) + p) ⌝ }
+    requires { ⌜ (p ≤ 14) × (p ≤ length (now values)) × (length (now values) + 14 ≤ length (now c) + p) × (length (now values) ≤ length (now out) + p) × (30 ≤ length (now c)) × Clear (now c) ⌝ }
     ensures { λ _. ⌜ now (out .exit) ≡ atFront (tabulate (λ i. marksAt l set (now (values .entry)) (p + i)) (length (now (values .entry)) - p)) (now (out .entry)) ⌝ }
 {
     let free = 14 - p;
@@ -392,9 +458,18 @@ fn block(l: Lines, set: u16, values: &[f64], p: usize, c: &mut [u16], out: &mut 
     fit(p, least(free, m), out);
 }
 
-// The marks of every position, `most` at a time, at the front of `out`; `c` is room for codes.
-fn blocks(l: Lines, set: u16, values: &[f64], most: usize, c: &mut [u16], out: &mut [u16])
-    requires { ⌜ (0 < most) × (most + 14 ≤ length (now c)) × (length (now values) ≤ length (now out)) ⌝ }
+// The marks of every position of few values: one block, so that little room has to be cleared.
+fn mark_few(l: Lines, set: u16, values: &[f64], out: &mut [u16])
+    requires { ⌜ (length (now values) ≤ 50) × (length (now values) ≤ length (now out)) ⌝ }
+    ensures { λ _. ⌜ now (out .exit) ≡ atFront (marksBy l set (now (values .entry))) (now (out .entry)) ⌝ }
+{
+    let mut c = [0u16; 64];
+    block(l, set, values, 0, &mut c[0..64], out);
+}
+
+// The same for many, block by block: a block and its codes stay in the nearest cache.
+fn mark_many(l: Lines, set: u16, values: &[f64], out: &mut [u16])
+    requires { ⌜ length (now values) ≤ length (now out) ⌝ }
     ensures { λ _. ⌜ now (out .exit) ≡ atFront (marksBy l set (now (values .entry))) (now (out .entry)) ⌝ }
 {
     let n = values.len();
@@ -402,28 +477,18 @@ fn blocks(l: Lines, set: u16, values: &[f64], most: usize, c: &mut [u16], out: &
     while at < n {
         let p = least(at, 14);
         let start = at - p;
-        let end = at + least(n - at, most);
-        block(l, set, &values[start..end], p, c, &mut out[at..]);
+        let end = at + least(n - at, 498);
+        let mut c = [0u16; 512];
+        block(
+            l,
+            set,
+            &values[start..end],
+            p,
+            &mut c[0..512],
+            &mut out[at..],
+        );
         at = end;
     }
-}
-
-// The same for few values, so that little room has to be cleared.
-fn mark_few(l: Lines, set: u16, values: &[f64], out: &mut [u16])
-    requires { ⌜ length (now values) ≤ length (now out) ⌝ }
-    ensures { λ _. ⌜ now (out .exit) ≡ atFront (marksBy l set (now (values .entry))) (now (out .entry)) ⌝ }
-{
-    let mut c = [0u16; 64];
-    blocks(l, set, values, 50, &mut c[0..64], out);
-}
-
-// The same for many: a block and its codes stay in the nearest cache.
-fn mark_many(l: Lines, set: u16, values: &[f64], out: &mut [u16])
-    requires { ⌜ length (now values) ≤ length (now out) ⌝ }
-    ensures { λ _. ⌜ now (out .exit) ≡ atFront (marksBy l set (now (values .entry))) (now (out .entry)) ⌝ }
-{
-    let mut c = [0u16; 512];
-    blocks(l, set, values, 498, &mut c[0..512], out);
 }
 
 // The same for a set that has no test but the first, whose windows are single values: no codes are needed.

@@ -12,13 +12,10 @@ use Rattle.rules.proofs.codes.fit.Statement.{statement}
 use Rattle.rules.proofs.codes.fit.Tie as tie
 
 abbrev Inv-loop : tie.InvT-loop
-Inv-loop from k out₀ i₀ out i = Tabling (λ j. bitAnd (getD out₀ j 0) (fitsAt (from + j))) k out₀ out i
+Inv-loop from k out₀ fits i₀ out i = Tabling (λ j. bitAnd (getD out₀ j 0) (fitsAt (from + j))) k out₀ out i
 
 abbrev μ-loop : tie.MeasureT-loop
-μ-loop from k out₀ i₀ out i = k - i
-
-loop-holds : tie.Need-loop-holds Inv-loop μ-loop
-loop-holds c = tabling-starts _ _ _ (c .pre .1)
+μ-loop from k out₀ fits i₀ out i = k - i
 
 loop-again : tie.Need-loop-again Inv-loop μ-loop
 unfolding fitsAt
@@ -27,19 +24,13 @@ loop-again c =
     let fits = fitsAt (c .before .before .before .args .from + c .before .before .loop .i) in
     tabling-goes-on _ _ _ _ _ t _ (c .before .loop-test .taken) (ap (λ (m : ℕ). bitAnd m fits) (tabling-next _ _ _ _ _ t))
 
-same-length : tie.Need-same-length Inv-loop μ-loop
-same-length c = tabling-length _ _ _ _ _ (c .before .loop .inv)
-
-returns : tie.Need-returns Inv-loop μ-loop
-returns c = tabling-ends _ _ _ _ _ (c .before .loop .inv) (c .loop-test .left)
-
 pub fit-spec : {M : Type 1} → statement M
 fit-spec =
     tie.close
     (tie.spec
     Inv-loop
     μ-loop
-    loop-holds
+    (λ c. tabling-starts _ _ _ (c .pre .1))
     (λ c. omega (arith, tabling-room _ _ _ _ _ (c .before .loop .inv) (c .loop-test .taken)))
     (λ c. tabling-room _ _ _ _ _ (c .before .before .loop .inv) (c .before .loop-test .taken))
     (λ c. search needs)
@@ -50,5 +41,5 @@ fit-spec =
     (λ c. search needs)
     (λ c. search needs)
     loop-again
-    same-length
-    returns)
+    (λ c. tabling-length _ _ _ _ _ (c .before .loop .inv))
+    (λ c. tabling-ends _ _ _ _ _ (c .before .loop .inv) (c .loop-test .left)))

@@ -1,11 +1,10 @@
 -- `rules::codes::read_all` meets its contract: the marks are written one after the other. Assumes nothing.
-use mathlib.Core.Path.{ap}
 use Prim.Native.Nat.{_-_}
 use native.Mathlib.Omega.{arith}
 use borrow.Author.Needs.{needs}
-use lib.Bits.{bitAnd}
-use Rattle.laws.proofs.Filling.{Tabling, tabling-starts, tabling-length, tabling-room, tabling-goes-on, tabling-ends}
+use Rattle.laws.proofs.Filling.{Tabling, tabling-starts, tabling-length, tabling-room, tabling-ends}
 use Rattle.rules.specs.Codes.{marksRead}
+use Rattle.rules.proofs.Marks.{reads-on}
 use Rattle.rules.proofs.codes.read_all.Statement.{statement}
 use Rattle.rules.proofs.codes.read_all.Tie as tie
 
@@ -14,12 +13,6 @@ Inv-loop set c m out₀ i₀ out i = Tabling (marksRead set c) m out₀ out i
 
 abbrev μ-loop : tie.MeasureT-loop
 μ-loop set c m out₀ i₀ out i = m - i
-
-loop-again : tie.Need-loop-again Inv-loop μ-loop
-unfolding marksRead
-loop-again c =
-    let s = c .before .before .before .before .before .args in
-    tabling-goes-on _ _ _ _ _ (c .before .before .loop .inv) _ (c .before .loop-test .taken) (ap (bitAnd (s .set)) (c .standing-at .ensures))
 
 pub read-all-spec : {M : Type 1} → statement M
 read-all-spec =
@@ -33,6 +26,6 @@ read-all-spec =
     (λ c. tabling-room _ _ _ _ _ (c .before .before .loop .inv) (c .before .loop-test .taken))
     (λ c. search needs)
     (λ c. search needs)
-    loop-again
+    (λ c. reads-on _ _ _ _ _ _ (c .before .before .loop .inv) (c .before .loop-test .taken) _ (c .standing-at .ensures))
     (λ c. tabling-length _ _ _ _ _ (c .before .loop .inv))
     (λ c. tabling-ends _ _ _ _ _ (c .before .loop .inv) (c .loop-test .left)))

@@ -1,25 +1,19 @@
 -- `rules::codes::read_runs` meets its contract: the marks are written one after the other. Assumes nothing.
-use mathlib.Core.Path.{ap}
 use Prim.Native.Nat.{_-_}
 use native.Mathlib.Omega.{arith}
 use borrow.Author.Needs.{needs}
 use lib.Bits.{bitAnd}
-use Rattle.laws.proofs.Filling.{Tabling, tabling-starts, tabling-length, tabling-room, tabling-goes-on, tabling-ends}
+use Rattle.laws.proofs.Filling.{Tabling, tabling-starts, tabling-length, tabling-room, tabling-ends}
 use Rattle.rules.specs.Codes.{marksRead}
+use Rattle.rules.proofs.Marks.{reads-on}
 use Rattle.rules.proofs.codes.read_runs.Statement.{statement}
 use Rattle.rules.proofs.codes.read_runs.Tie as tie
 
 abbrev Inv-loop : tie.InvT-loop
-Inv-loop set c m out₀ i₀ out i = Tabling (marksRead (bitAnd set 455) c) m out₀ out i
+Inv-loop set c m out₀ i₀ out i = Tabling (marksRead (bitAnd set 391) c) m out₀ out i
 
 abbrev μ-loop : tie.MeasureT-loop
 μ-loop set c m out₀ i₀ out i = m - i
-
-loop-again : tie.Need-loop-again Inv-loop μ-loop
-unfolding marksRead
-loop-again c =
-    let s = c .before .before .before .before .before .args in
-    tabling-goes-on _ _ _ _ _ (c .before .before .loop .inv) _ (c .before .loop-test .taken) (ap (bitAnd (bitAnd (s .set) 455)) (c .standing-at .ensures))
 
 pub read-runs-spec : {M : Type 1} → statement M
 read-runs-spec =
@@ -33,6 +27,6 @@ read-runs-spec =
     (λ c. tabling-room _ _ _ _ _ (c .before .before .loop .inv) (c .before .loop-test .taken))
     (λ c. search needs)
     (λ c. search needs)
-    loop-again
+    (λ c. reads-on _ _ _ _ _ _ (c .before .before .loop .inv) (c .before .loop-test .taken) _ (c .standing-at .ensures))
     (λ c. tabling-length _ _ _ _ _ (c .before .loop .inv))
     (λ c. tabling-ends _ _ _ _ _ (c .before .loop .inv) (c .loop-test .left)))
