@@ -13,6 +13,18 @@ use Rattle.lists.specs.Found.{Found, read, fault}
 use Rattle.lists.specs.Reading.{following, rowFrom}
 
 module _ {A : Type 0} (one : ℕ → Found A) where
+  -- what is found of those left, of which there are none, or where the next stands
+  module _ (n i at : ℕ) where
+    pub row-none : n ≤ i → rowFrom one (n - i) at ≡ ([], read tt at)
+    unfolding rowFrom
+    row-none h = let none : n - i ≡ 0 = omega arith in ap (λ (m : ℕ). rowFrom one m at) none
+
+    pub row-next : i < n → (x : Found A) → one at ≡ x → rowFrom one (n - i) at ≡ following x (rowFrom one (n - (i + 1)))
+    unfolding rowFrom
+    row-next h x e =
+        let some : n - i ≡ suc (n - (i + 1)) = omega arith in
+        ap (λ (m : ℕ). rowFrom one m at) some ∙ ap (λ (y : Found A). following y (rowFrom one (n - (i + 1)))) e
+
   row-length : (n at : ℕ) → length (rowFrom one n at .0) ≤ n
   unfolding rowFrom
   row-length zero at = omega arith
@@ -54,17 +66,11 @@ module _ {A : Type 0} {one : ℕ → Found A} {was : List A} {from : ℕ} {now :
       (ap (λ p. p .1) same, filling-ends (all .0) was now i (r .stand) (omega (arith, length-drop i (all .0))))
 
   pub reads-ends : length now ≤ i → Ended one was from (read tt at) now
-  unfolding rowFrom
-  reads-ends h =
-      let none : length was - i ≡ 0 = omega (arith, reads-length) in
-      no-more (read tt at) (ap (λ (n : ℕ). rowFrom one n at) none)
+  reads-ends h = no-more (read tt at) (row-none one (length was) i at (omega (arith, reads-length)))
 
   module _ (h : i < length now) where
     next-is : (x : Found A) → one at ≡ x → rowFrom one (length was - i) at ≡ following x (rowFrom one (length was - (i + 1)))
-    unfolding rowFrom
-    next-is x e =
-        let some : length was - i ≡ suc (length was - (i + 1)) = omega (arith, reads-length) in
-        ap (λ (n : ℕ). rowFrom one n at) some ∙ ap (λ (y : Found A). following y (rowFrom one (length was - (i + 1)))) e
+    next-is x e = row-next one (length was) i at (omega (arith, reads-length)) x e
 
     pub reads-stops : {f : Fault} → one at ≡ fault f → Ended one was from (fault f) now
     reads-stops {f} e = no-more (fault f) (next-is (fault f) e)

@@ -11,7 +11,7 @@ use Rattle.groups.specs.declared.Reading.{Reading}
 use Rattle.groups.specs.declared.Reading.the-variants as groups
 use Rattle.groups.specs.Groups.{numberAt}
 use Rattle.lists.specs.declared.Item.{Item}
-use Rattle.lists.specs.declared.Item.the-variants.{Format, Cases, Answer, Marks, End}
+use Rattle.lists.specs.declared.Item.the-variants.{Format, Cases, Answer, End}
 use Rattle.lists.specs.declared.Why.the-variants.{Cut, Form, Range, NoAnswer, NotFinite, LeftOver, TooLong}
 use Rattle.lists.specs.declared.Fault.{Fault}
 use Rattle.lists.specs.Found.{Found, read, fault, wrong, onward}
@@ -68,10 +68,6 @@ rowFrom one (suc n) at = following (one at) (rowFrom one n)
 
 abbrev pub floatsFrom : List ℕ → Item → ℕ → ℕ → List Float × Found Unit
 floatsFrom list item n at = rowFrom (floatFrom list item) n at
-
--- marks, each "0 to 511"
-abbrev pub marksFrom : List ℕ → ℕ → ℕ → List ℕ × Found Unit
-marksFrom list n at = rowFrom (smallFrom list Marks 0 511) n at
 
 -- ---- the whole
 

@@ -1,32 +1,38 @@
-// Lists of cases with their right answers, in the form of oracle/FORMAT.md: reading what they hold, holding what is ours
-// to it, and saying why bytes are no list.
-mod apart;
+// Lists of cases with their right answers, in the form of oracle/FORMAT.md: reading what they hold, writing what is ours as
+// they have it, holding the one to the other case by case, and saying why bytes are no list.
+mod ours;
+mod outcome;
+mod run;
 mod words;
 
-pub use apart::Apart;
-pub use apart::Parting;
-pub use apart::bits;
-pub use apart::bytes_apart;
-pub use apart::floats_apart;
-pub use apart::marks_apart;
 use groups::Reading;
-pub use words::no_list;
-pub use words::put;
-pub use words::say;
-pub use words::say_bits;
-pub use words::totals;
+pub use ours::bits;
+pub use ours::floats_are;
+pub use ours::marks_are;
+pub use ours::put_floats;
+pub use ours::put_marks;
+pub use ours::put_number;
+pub use outcome::Outcome;
+pub use outcome::Parting;
+pub use outcome::compare;
+pub use outcome::hold;
+pub use run::Replayed;
+pub use run::Run;
+pub use run::begin;
+pub use run::end;
+pub use run::past;
 ghost use mathlib.Core.Path.{_≡_};
 ghost use lib.ListN.{length};
 ghost use Rattle.laws.specs.Front.{atFront};
 ghost use Rattle.lists.specs.Found.{ofNumber, ofSmall, ofFloat, ofBytes, ofPassed};
 ghost use Rattle.lists.specs.Reading.{cut, noNumber, numberFrom, smallFrom, answerFrom, floatFrom, bytesFrom};
-ghost use Rattle.lists.specs.Reading.{floatsFrom, marksFrom, openingOf, closingFrom};
+ghost use Rattle.lists.specs.Reading.{floatsFrom, rowFrom, openingOf, closingFrom};
 ghost use Rattle.lists.specs.Taken.{AtMost, Within};
 
 /// Bytes of the longest list.
 pub const MOST_BYTES: usize = 400_000;
 
-/// The largest rule set, and the largest marks of a point.
+/// The largest rule set.
 pub const ALL_TESTS: u16 = 511;
 
 /// What a number of a list stands for.
@@ -42,12 +48,6 @@ pub enum Item {
     Samples,
     Value,
     Answer,
-    Points,
-    Point,
-    Marks,
-    AllMarks,
-    NoneStands,
-    Figure,
     Flow,
     Text,
     End,
@@ -270,20 +270,16 @@ pub fn read_floats(list: &[u8], at: usize, item: Item, out: &mut [f64]) -> Passe
     Passed::Next(next_at)
 }
 
-/// Reads the marks of as many points as `out` has room for. Those before a fault stand at its front.
-pub fn read_marks(list: &[u8], at: usize, out: &mut [u16]) -> Passed
-    ensures { λ r. ⌜ ofPassed r ≡ marksFrom (now (list .entry)) (length (now (out .entry))) at .1 ⌝ }
-    ensures values { λ r. ⌜ now (out .exit) ≡ atFront (marksFrom (now (list .entry)) (length (now (out .entry))) at .0) (now (out .entry)) ⌝ }
+/// Passes over n numbers.
+pub fn pass_numbers(list: &[u8], at: usize, item: Item, n: usize) -> Passed
+    ensures { λ r. ⌜ ofPassed r ≡ rowFrom (numberFrom (now (list .entry)) item) n at .1 ⌝ }
 {
     let mut next_at = at;
     let mut i = 0;
-    while i < out.len() {
-        match read_small(list, next_at, Item::Marks, 0, ALL_TESTS) {
-            Small::Read(read) => {
-                out[i] = read.value;
-                next_at = read.next;
-            }
-            Small::Fault(fault) => return Passed::Fault(fault),
+    while i < n {
+        match read_number(list, next_at, item) {
+            Number::Read(read) => next_at = read.next,
+            Number::Fault(fault) => return Passed::Fault(fault),
         }
         i += 1;
     }

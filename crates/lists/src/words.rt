@@ -12,21 +12,14 @@ pub fn say(before: &[u8], n: u64, after: &[u8]) {
     io::write_all(STDOUT_FILENO, after);
 }
 
-/// Writes the bits of an f64, as sixteen hexadecimal digits, with what stands before and after them.
-pub fn say_bits(before: &[u8], bits: u64, after: &[u8]) {
-    io::write_all(STDOUT_FILENO, before);
-    io::print_hex(STDOUT_FILENO, bits, 16);
-    io::write_all(STDOUT_FILENO, after);
-}
-
 /// Writes the last line of a replay: how many cases there were, and how many of them differ.
 pub fn totals(cases: u64, differ: u64) {
     say(b"", cases, b" cases, ");
     say(b"", differ, b" differ\n");
 }
 
-/// Writes a text.
-pub fn put(text: &[u8]) {
+// Writes a text.
+fn put(text: &[u8]) {
     io::write_all(STDOUT_FILENO, text);
 }
 
@@ -43,12 +36,6 @@ fn put_item(item: Item) {
         Item::Samples => put(b"number of samples"),
         Item::Value => put(b"value"),
         Item::Answer => put(b"answer"),
-        Item::Points => put(b"number of points of the dispersion series"),
-        Item::Point => put(b"point"),
-        Item::Marks => put(b"marks"),
-        Item::AllMarks => put(b"number of marks"),
-        Item::NoneStands => put(b"whether none stands"),
-        Item::Figure => put(b"sigma figure"),
         Item::Flow => put(b"flow file"),
         Item::Text => put(b"report"),
         Item::End => put(b"end"),

@@ -1,2 +1,3 @@
-pub mod Findings
 pub mod Head
+pub mod Answer
+pub mod Held

@@ -1,13 +1,11 @@
 // Replays a list of chart cases (oracle/FORMAT.md) from standard input: makes each chart afresh, adds its samples one by
-// one, evaluates it, and holds its answers and the four slices to what is stored. Writes a line for each case that it
-// finds otherwise, and last how many cases there are and how many of them differ; or, where the bytes are no list, last a
-// line that says at which byte and why.
+// one, evaluates it, and holds its answer byte for byte to what is stored, the entries past it to what they were, and where
+// it is refused both figures to the same number. Writes a line for each case that it finds otherwise, and last how many
+// cases there are and how many of them differ; or, where the bytes are no list, last a line that says at which byte and
+// why.
+mod answer;
 mod answers;
 mod head;
-mod outcome;
-mod refused;
-mod stored;
-mod words;
 
 use answers::Answers;
 use charts::Changed;
@@ -17,16 +15,17 @@ use head::Headed;
 use libc::STDIN_FILENO;
 use lists::Fault;
 use lists::Item;
-use lists::Number;
+use lists::Outcome;
 use lists::Passed;
-use lists::Small;
-use outcome::Outcome;
-use outcome::What;
+use lists::Replayed;
 use sets::RuleSet;
-use stored::Replayed;
 ghost use mathlib.Core.Path.{_≡_};
-ghost use Prim.Native.Nat.{_+_, _≤_};
+ghost use Prim.Native.Nat.{_≤_};
 ghost use lib.ListN.{length};
+ghost use Rattle.lists.specs.Ours.{inGroups};
+ghost use Rattle.lists.specs.Outcomes.{OnlyIf, stretch};
+ghost use Rattle.replay_charts.specs.Answer.{answerOf};
+ghost use Rattle.replay_charts.specs.Held.{Held, refusedAlike, restIs};
 
 // How many entries more than its series a lent slice has.
 const SPARE: usize = 4;
@@ -37,10 +36,10 @@ const UNTOUCHED_MARKS: u16 = 0xffff;
 
 const UNTOUCHED_POINT: f64 = -12345.678;
 
-// A chart, and what making and filling it has come to.
+// A chart, and 01's number of the last call that refused to make or to fill it, 0 where none did.
 struct Made {
     chart: Chart,
-    outcome: Outcome,
+    refused: u8,
 }
 
 // A chart with its samples, and the place just past them; or why there are none.
@@ -49,19 +48,26 @@ enum Filled {
     Fault(Fault),
 }
 
+// What evaluating ought to leave of the slices: so many entries of the answer, and behind them this point and these marks.
+struct Left {
+    n: usize,
+    d: usize,
+    point: f64,
+    marks: u16,
+}
+
 // What changing a chart comes to; a refused one is as it was.
-fn changed(made: Made, what: What, at: usize, answer: Changed) -> Made {
+fn changed(made: Made, answer: Changed) -> Made {
     let chart = made.chart;
-    let outcome = made.outcome;
     match answer {
-        Changed::Done(chart) => Made { chart, outcome },
-        Changed::Refused(why) => {
-            let refused = outcome::number_at(what, at, why.number() as u64, 0);
-            Made {
-                chart,
-                outcome: outcome::first(outcome, refused),
-            }
-        }
+        Changed::Done(chart) => Made {
+            chart,
+            refused: made.refused,
+        },
+        Changed::Refused(why) => Made {
+            chart,
+            refused: why.number(),
+        },
     }
 }
 
@@ -73,13 +79,9 @@ fn make(kind: u64, size: usize, set: RuleSet) -> Made {
         count: 0,
         set,
     };
-    let made = Made {
-        chart,
-        outcome: Outcome::Same,
-    };
-    let new = changed(made, What::New, 0, Chart::new(kind, size));
+    let new = changed(Made { chart, refused: 0 }, Chart::new(kind, size));
     let chart = new.chart;
-    changed(new, What::Set, 0, chart.with_set(set))
+    changed(new, chart.with_set(set))
 }
 
 // Adds `count` samples, which stand one after another from the place `at` on. There is room for one of them in `sample`.
@@ -100,7 +102,7 @@ fn fill(
             Passed::Fault(fault) => return Filled::Fault(fault),
         }
         let chart = made.chart;
-        made = changed(made, What::Add, k, chart.add(values, sample));
+        made = changed(made, chart.add(values, sample));
         k += 1;
     }
     Filled::Chart {
@@ -139,78 +141,147 @@ fn dispersion_points(head: Head) -> u16
     n
 }
 
-// Holds a chart to the stored answer, 0, 7 or 8, and to what follows it from the place `at` on. The series have n and d
-// points.
-fn hold(
-    list: &[u8],
-    at: usize,
-    answer: u16,
-    earlier: Outcome,
-    ours: Answers,
-    n: u16,
-    d: u16,
+// What ought to be left by 01's number, of slices for series of n and d points: at 7 they are zero throughout, at any
+// other refusal as they came.
+fn left_by(number: u8, n: usize, d: usize) -> Left
+    ensures { λ r. ⌜ (r .n ≤ n) × (r .d ≤ d) ⌝ }
+{
+    let point = UNTOUCHED_POINT;
+    let marks = UNTOUCHED_MARKS;
+    if number == 0 {
+        return Left { n, d, point, marks };
+    }
+    if number == 7 {
+        return Left {
+            n: 0,
+            d: 0,
+            point: 0.0,
+            marks: 0,
+        };
+    }
+    Left {
+        n: 0,
+        d: 0,
+        point,
+        marks,
+    }
+}
+
+// Whether the slices are behind the answer as they ought to be.
+fn rest_is(
+    left: Left,
     main: &[f64],
     dispersion: &[f64],
     main_marks: &[u16],
     dispersion_marks: &[u16],
-) -> Replayed
-    requires { ⌜ (n ≤ length (now main)) × (length (now main) ≤ 4100) ⌝ }
-    requires { ⌜ (d ≤ length (now dispersion)) × (length (now dispersion) ≤ 4100) ⌝ }
-    requires { ⌜ (n ≤ length (now «main_marks»)) × (length (now «main_marks») ≤ 4100) ⌝ }
-    requires { ⌜ (d ≤ length (now «dispersion_marks»)) × (length (now «dispersion_marks») ≤ 4100) ⌝ }
+) -> bool
+    ensures { λ r. ⌜ r ≡ restIs left (now (main .entry)) (now (dispersion .entry)) (now («main_marks» .entry))
+        (now («dispersion_marks» .entry)) ⌝ }
 {
-    let number = outcome::number(What::Answer, ours.number as u64, answer as u64);
-    let outcome = outcome::first(earlier, number);
-    if answer == 0 {
-        let so_far = Replayed::Case { outcome, next: at };
-        return stored::hold_stored(
-            list,
-            so_far,
-            ours,
-            n,
-            d,
-            main,
-            dispersion,
-            main_marks,
-            dispersion_marks,
-        );
+    lists::floats_are(main, left.n, left.point)
+        & lists::floats_are(dispersion, left.d, left.point)
+        & lists::marks_are(main_marks, left.n, left.marks)
+        & lists::marks_are(dispersion_marks, left.d, left.marks)
+}
+
+// Whether both figures are refused as evaluating is, and none stands at 8 only; where evaluating is not refused, yes.
+fn refused_alike(ours: Answers) -> bool
+    ensures { λ r. ⌜ r ≡ refusedAlike ours ⌝ }
+{
+    let number = ours.number;
+    if number == 0 {
+        return true;
     }
-    let all = refused::hold_refused(
-        outcome,
-        answer,
+    let a = ours.sigma_hat;
+    let b = ours.sigma_hat_df;
+    (a.number == number) & (b.number == number) & (ours.none_stands as u8 == (number == 8) as u8)
+}
+
+// Holds our answer to the stored one, which stands in the list from `at` to `next`.
+fn hold_answer(
+    list: &[u8],
+    at: usize,
+    next: usize,
+    ours: Answers,
+    main: &[f64],
+    dispersion: &[f64],
+    main_marks: &[u16],
+    dispersion_marks: &[u16],
+) -> Outcome
+    ensures { λ r. ⌜ OnlyIf (inGroups (answerOf ours (now (main .entry)) (now (dispersion .entry)) (now («main_marks» .entry))
+        (now («dispersion_marks» .entry))) ≡ stretch at next (now (list .entry))) r ⌝ }
+{
+    // 8,192 points of ten bytes with marks of two, and some numbers more
+    let mut room = [0u8; 100_000];
+    let end = answer::put_answer(
+        &mut room,
         ours,
         main,
         dispersion,
         main_marks,
         dispersion_marks,
     );
-    Replayed::Case {
-        outcome: all,
-        next: at,
+    if room.len() < end {
+        return Outcome::Length(end);
     }
+    let bytes = &room[0..end];
+    lists::hold(bytes, list, at, next)
 }
 
-// Evaluates a chart into slices for series of n and d points, and holds it to the stored answer.
+// Holds all that a chart answers and leaves.
+fn hold(
+    list: &[u8],
+    at: usize,
+    next: usize,
+    ours: Answers,
+    left: Left,
+    main: &[f64],
+    dispersion: &[f64],
+    main_marks: &[u16],
+    dispersion_marks: &[u16],
+) -> Outcome
+    requires { ⌜ (left .n ≤ length (now main)) × (left .d ≤ length (now dispersion)) ⌝ }
+    requires { ⌜ (left .n ≤ length (now «main_marks»)) × (left .d ≤ length (now «dispersion_marks»)) ⌝ }
+    ensures { λ r. ⌜ OnlyIf (Held (stretch at next (now (list .entry))) ours left (now (main .entry))
+        (now (dispersion .entry)) (now («main_marks» .entry)) (now («dispersion_marks» .entry))) r ⌝ }
+{
+    if !refused_alike(ours) {
+        return Outcome::Taken;
+    }
+    if !rest_is(left, main, dispersion, main_marks, dispersion_marks) {
+        return Outcome::Overrun;
+    }
+    let n = left.n;
+    let d = left.d;
+    hold_answer(
+        list,
+        at,
+        next,
+        ours,
+        &main[0..n],
+        &dispersion[0..d],
+        &main_marks[0..n],
+        &dispersion_marks[0..d],
+    )
+}
+
+// Evaluates a chart into slices for series of n and d points, and holds it to the answer stored from `at` to `next`.
 fn judge(
     list: &[u8],
     at: usize,
-    answer: u16,
-    made: Made,
-    n: u16,
-    d: u16,
+    next: usize,
+    chart: Chart,
     values: &[f64],
+    n: usize,
+    d: usize,
     main: &mut [f64],
     dispersion: &mut [f64],
     main_marks: &mut [u16],
     dispersion_marks: &mut [u16],
-) -> Replayed
-    requires { ⌜ (n ≤ length (now main)) × (length (now main) ≤ 4100) ⌝ }
-    requires { ⌜ (d ≤ length (now dispersion)) × (length (now dispersion) ≤ 4100) ⌝ }
-    requires { ⌜ (n ≤ length (now «main_marks»)) × (length (now «main_marks») ≤ 4100) ⌝ }
-    requires { ⌜ (d ≤ length (now «dispersion_marks»)) × (length (now «dispersion_marks») ≤ 4100) ⌝ }
+) -> Outcome
+    requires { ⌜ (n ≤ length (now main)) × (d ≤ length (now dispersion)) ⌝ }
+    requires { ⌜ (n ≤ length (now «main_marks»)) × (d ≤ length (now «dispersion_marks»)) ⌝ }
 {
-    let chart = made.chart;
-    let earlier = made.outcome;
     let ours = answers::answers_of(
         chart,
         values,
@@ -219,14 +290,13 @@ fn judge(
         main_marks,
         dispersion_marks,
     );
+    let left = left_by(ours.number, n, d);
     hold(
         list,
         at,
-        answer,
-        earlier,
+        next,
         ours,
-        n,
-        d,
+        left,
         main,
         dispersion,
         main_marks,
@@ -234,35 +304,58 @@ fn judge(
     )
 }
 
-// Replays a case from its answer on, which stands at the place `at`.
-fn replay_answer(list: &[u8], at: usize, head: Head, made: Made, values: &[f64]) -> Replayed
-    requires { ⌜ head .count ≤ 4096 ⌝ }
+// Evaluates a chart whose series have n and d points, and holds it to the answer stored from `at` to `next`.
+fn evaluate(
+    list: &[u8],
+    at: usize,
+    next: usize,
+    chart: Chart,
+    values: &[f64],
+    n: usize,
+    d: usize,
+) -> Outcome
+    requires { ⌜ (n ≤ 4096) × (d ≤ 4096) ⌝ }
 {
-    let answer = match lists::read_answer(list, at, 8) {
-        Small::Read(answer) => answer,
-        Small::Fault(fault) => return Replayed::Fault(fault),
-    };
-    let n = head.count;
-    let d = dispersion_points(head);
-    let main_end = n as usize + SPARE;
-    let dispersion_end = d as usize + SPARE;
+    let main_end = n + SPARE;
+    let dispersion_end = d + SPARE;
     let mut main = [UNTOUCHED_POINT; 4100];
     let mut dispersion = [UNTOUCHED_POINT; 4100];
     let mut main_marks = [UNTOUCHED_MARKS; 4100];
     let mut dispersion_marks = [UNTOUCHED_MARKS; 4100];
     judge(
         list,
-        answer.next,
-        answer.value,
-        made,
+        at,
+        next,
+        chart,
+        values,
         n,
         d,
-        values,
         &mut main[0..main_end],
         &mut dispersion[0..dispersion_end],
         &mut main_marks[0..main_end],
         &mut dispersion_marks[0..dispersion_end],
     )
+}
+
+// Replays a case from its answer on, which stands at the place `at`.
+fn replay_answer(list: &[u8], at: usize, head: Head, made: Made, values: &[f64]) -> Replayed
+    requires { ⌜ head .count ≤ 4096 ⌝ }
+{
+    let n = head.count as usize;
+    let d = dispersion_points(head) as usize;
+    let next = match answer::pass_answer(list, at, n + d) {
+        Passed::Next(next) => next,
+        Passed::Fault(fault) => return Replayed::Fault(fault),
+    };
+    if made.refused != 0 {
+        return Replayed::Case {
+            outcome: Outcome::Refused(made.refused),
+            next,
+        };
+    }
+    let chart = made.chart;
+    let outcome = evaluate(list, at, next, chart, values, n, d);
+    Replayed::Case { outcome, next }
 }
 
 // Replays the case that begins at the place `at`. There is room for its values; others may stand there from an earlier
@@ -280,33 +373,11 @@ fn replay_case(list: &[u8], at: usize, values: &mut [f64]) -> Replayed {
 
 // Replays every case of a list. There is room for the values of one of them.
 fn replay(list: &[u8], values: &mut [f64]) {
-    let cases = match lists::opening(list) {
-        Number::Read(cases) => cases,
-        Number::Fault(fault) => {
-            lists::no_list(fault);
-            return;
-        }
-    };
-    let mut at = cases.next;
-    let mut k: u64 = 0;
-    let mut differ: u64 = 0;
-    while k < cases.value {
-        match replay_case(list, at, values) {
-            Replayed::Case { outcome, next } => {
-                differ += words::tell(k, outcome);
-                at = next;
-            }
-            Replayed::Fault(fault) => {
-                lists::no_list(fault);
-                return;
-            }
-        }
-        k += 1;
+    let mut run = lists::begin(list);
+    while run.k < run.cases {
+        run = lists::past(run, replay_case(list, run.at, values));
     }
-    match lists::closing(list, at) {
-        Passed::Next(_) => lists::totals(k, differ),
-        Passed::Fault(fault) => lists::no_list(fault),
-    }
+    lists::end(list, run);
 }
 
 fn main() {

@@ -1,21 +1,21 @@
 // Replays a list of marks cases (oracle/FORMAT.md) from standard input: marks the values of each case afresh, and holds
-// the answer and the marks to what is stored. Writes a line for each case that it finds otherwise, and last how many
-// cases there are and how many of them differ; or, where the bytes are no list, last a line that says at which byte and
-// why.
+// the answer, the marks byte for byte and the entries past them to what is stored. Writes a line for each case that it
+// finds otherwise, and last how many cases there are and how many of them differ; or, where the bytes are no list, last a
+// line that says at which byte and why.
 use libc::STDIN_FILENO;
-use lists::Apart;
-use lists::Fault;
 use lists::Item;
-use lists::Number;
-use lists::Parting;
+use lists::Outcome;
 use lists::Passed;
+use lists::Replayed;
 use lists::Small;
 use rules::Limits;
 use sets::RuleSet;
 ghost use mathlib.Core.Path.{_≡_};
-ghost use Prim.Native.Nat.{_+_, _≤_};
+ghost use Prim.Native.Nat.{_+_};
 ghost use lib.ListN.{length};
-ghost use Rattle.replay_marks.specs.Compared.{OnlyIf};
+ghost use Rattle.lists.specs.Ours.{inGroups};
+ghost use Rattle.lists.specs.Outcomes.{OnlyIf, stretch};
+ghost use Rattle.replay_marks.specs.Held.{Held};
 
 // The tag of a marks case.
 const MARKS_CASE: u16 = 1;
@@ -29,53 +29,46 @@ const SPARE: usize = 4;
 // What a slice for marks holds before they are made. No marks are this, and past the last of them it has to stay.
 const UNTOUCHED: u16 = 0xffff;
 
-// What a case comes to.
-enum Outcome {
-    // The answer and every entry are as they ought to be.
-    Same,
-    // Marking is refused, by 01's number.
-    Refused(u8),
-    // The first marks that are not as stored.
-    Marks(Parting),
-    // The first entry past the last that is written to.
-    Overrun(Parting),
-}
-
-// What a case comes to and the place just past it; or why there is no case.
-enum Replayed {
-    Case { outcome: Outcome, next: usize },
-    Fault(Fault),
-}
-
-// Holds our entries to the right ones, of which the first n are the stored marks.
-fn compare(ours: &[u16], right: &[u16], n: usize) -> Outcome
-    requires { ⌜ length (now ours) ≡ length (now right) ⌝ }
-    ensures { λ r. ⌜ OnlyIf (now (ours .entry) ≡ now (right .entry)) r ⌝ }
+// Holds our marks to the stored ones, which stand in the list from `at` to `next`.
+fn hold(list: &[u8], at: usize, next: usize, marks: &[u16]) -> Outcome
+    ensures { λ r. ⌜ OnlyIf (inGroups (now (marks .entry)) ≡ stretch at next (now (list .entry))) r ⌝ }
 {
-    match lists::marks_apart(ours, right) {
-        Apart::Nowhere => Outcome::Same,
-        Apart::At(parting) => {
-            if parting.at < n {
-                return Outcome::Marks(parting);
-            }
-            Outcome::Overrun(parting)
-        }
+    // 4,096 marks of two bytes
+    let mut room = [0u8; 8192];
+    let end = lists::put_marks(&mut room, 0, marks);
+    if room.len() < end {
+        return Outcome::Length(end);
     }
+    let bytes = &room[0..end];
+    lists::hold(bytes, list, at, next)
 }
 
-// Marks the values, and compares.
-fn judge(values: &[f64], limits: Limits, set: RuleSet, marks: &mut [u16], right: &[u16]) -> Outcome
-    requires { ⌜ length (now marks) ≡ length (now right) ⌝ }
+// Marks the values, and holds the marks to those stored from `at` to `next`.
+fn judge(
+    list: &[u8],
+    at: usize,
+    next: usize,
+    values: &[f64],
+    limits: Limits,
+    set: RuleSet,
+    marks: &mut [u16],
+) -> Outcome
+    requires { ⌜ length (now marks) ≡ length (now values) + 4 ⌝ }
+    ensures { λ r. ⌜ OnlyIf (Held (stretch at next (now (list .entry))) (length (now (values .entry))) (now (marks .exit))) r ⌝ }
 {
+    let n = values.len();
     let answer = rules::mark(values, limits, set, marks).number();
     if answer != 0 {
         return Outcome::Refused(answer);
     }
-    compare(marks, right, values.len())
+    if !lists::marks_are(marks, n, UNTOUCHED) {
+        return Outcome::Overrun;
+    }
+    hold(list, at, next, &marks[0..n])
 }
 
-// Replays a case from its values on, which stand at the place `at`. The slices are room for the values, for our marks and
-// for the right ones; the last two have `SPARE` entries more.
+// Replays a case from its values on, which stand at the place `at`. There is room for the values, and for the marks with
+// `SPARE` entries more.
 fn replay_values(
     list: &[u8],
     at: usize,
@@ -83,21 +76,18 @@ fn replay_values(
     set: RuleSet,
     values: &mut [f64],
     marks: &mut [u16],
-    right: &mut [u16],
 ) -> Replayed
     requires { ⌜ length (now marks) ≡ length (now values) + 4 ⌝ }
-    requires { ⌜ length (now right) ≡ length (now values) + 4 ⌝ }
 {
-    let n = values.len();
     let marks_at = match lists::read_floats(list, at, Item::Value, values) {
         Passed::Next(next) => next,
         Passed::Fault(fault) => return Replayed::Fault(fault),
     };
-    let next = match lists::read_marks(list, marks_at, &mut right[0..n]) {
+    let next = match lists::pass_numbers(list, marks_at, Item::Answer, values.len()) {
         Passed::Next(next) => next,
         Passed::Fault(fault) => return Replayed::Fault(fault),
     };
-    let outcome = judge(values, limits, set, marks, right);
+    let outcome = judge(list, marks_at, next, values, limits, set, marks);
     Replayed::Case { outcome, next }
 }
 
@@ -111,7 +101,6 @@ fn replay_count(list: &[u8], at: usize, limits: Limits, set: RuleSet) -> Replaye
     let end = n + SPARE;
     let mut values = [0.0f64; 4096];
     let mut marks = [UNTOUCHED; 4100];
-    let mut right = [UNTOUCHED; 4100];
     replay_values(
         list,
         count.next,
@@ -119,7 +108,6 @@ fn replay_count(list: &[u8], at: usize, limits: Limits, set: RuleSet) -> Replaye
         set,
         &mut values[0..n],
         &mut marks[0..end],
-        &mut right[0..end],
     )
 }
 
@@ -146,61 +134,13 @@ fn replay_case(list: &[u8], at: usize) -> Replayed {
     replay_count(list, next, limits, RuleSet { mask: set.value })
 }
 
-// Writes the line of a case that does not come to what it ought to, and gives 1; for any other 0.
-fn tell(k: u64, outcome: Outcome) -> u64
-    ensures { λ r. ⌜ r ≤ 1 ⌝ }
-{
-    match outcome {
-        Outcome::Same => return 0,
-        Outcome::Refused(answer) => {
-            lists::say(b"case ", k, b": answer: stored 0");
-            lists::say(b", ours ", answer as u64, b"\n");
-        }
-        Outcome::Marks(p) => {
-            lists::say(b"case ", k, b": marks at ");
-            lists::say(b"", p.at as u64, b": stored ");
-            lists::say(b"", p.right, b", ours ");
-            lists::say(b"", p.ours, b"\n");
-        }
-        Outcome::Overrun(p) => {
-            lists::say(b"case ", k, b": entry ");
-            lists::say(b"", p.at as u64, b" past the last: untouched ");
-            lists::say(b"", p.right, b", ours ");
-            lists::say(b"", p.ours, b"\n");
-        }
-    }
-    1
-}
-
 // Replays every case of a list.
 fn replay(list: &[u8]) {
-    let cases = match lists::opening(list) {
-        Number::Read(cases) => cases,
-        Number::Fault(fault) => {
-            lists::no_list(fault);
-            return;
-        }
-    };
-    let mut at = cases.next;
-    let mut k: u64 = 0;
-    let mut differ: u64 = 0;
-    while k < cases.value {
-        match replay_case(list, at) {
-            Replayed::Case { outcome, next } => {
-                differ += tell(k, outcome);
-                at = next;
-            }
-            Replayed::Fault(fault) => {
-                lists::no_list(fault);
-                return;
-            }
-        }
-        k += 1;
+    let mut run = lists::begin(list);
+    while run.k < run.cases {
+        run = lists::past(run, replay_case(list, run.at));
     }
-    match lists::closing(list, at) {
-        Passed::Next(_) => lists::totals(k, differ),
-        Passed::Fault(fault) => lists::no_list(fault),
-    }
+    lists::end(list, run);
 }
 
 fn main() {

@@ -3,19 +3,16 @@
 // refusal. Writes a line for each case that it finds otherwise, and last how many cases there are and how many of them
 // differ; or, where the bytes are no list, last a line that says at which byte and why.
 use libc::STDIN_FILENO;
-use lists::Apart;
 use lists::Bytes;
-use lists::Fault;
 use lists::Item;
-use lists::Number;
-use lists::Parting;
-use lists::Passed;
+use lists::Outcome;
+use lists::Replayed;
 use lists::Small;
 use reports::Reported;
 ghost use mathlib.Core.Path.{_≡_};
-ghost use Prim.Native.Nat.{_+_, _≤_};
+ghost use Prim.Native.Nat.{_≤_};
 ghost use lib.ListN.{length};
-ghost use Rattle.replay_reports.specs.Compared.{OnlyIf};
+ghost use Rattle.lists.specs.Outcomes.{OnlyIf};
 
 // The tag of a report case.
 const REPORT_CASE: u16 = 3;
@@ -26,56 +23,25 @@ const SPARE: usize = 4;
 // What a room holds before a report is written. No report has this byte, and past the last of it it has to stay.
 const UNTOUCHED: u8 = 0xff;
 
-// What a case comes to.
-enum Outcome {
-    // The length and every byte are as they ought to be.
-    Same,
-    // The room is refused as too short, though it is not.
-    Refused,
-    // The report's length.
-    Length(usize),
-    // The first byte that is not as stored, or past the last not as it was.
-    Text(Parting),
-    // A room one byte too short is taken.
-    Taken,
-}
-
-// What a case comes to and the place just past it; or why there is no case.
-enum Replayed {
-    Case { outcome: Outcome, next: usize },
-    Fault(Fault),
-}
-
-// Holds our bytes to the right ones.
-fn compare(ours: &[u8], right: &[u8]) -> Outcome
-    requires { ⌜ length (now ours) ≡ length (now right) ⌝ }
-    ensures { λ r. ⌜ OnlyIf (now (ours .entry) ≡ now (right .entry)) r ⌝ }
-{
-    match lists::bytes_apart(ours, right) {
-        Apart::Nowhere => Outcome::Same,
-        Apart::At(parting) => Outcome::Text(parting),
-    }
-}
-
 // Writes the report into the room and holds it to the right bytes: those of the report, whose length is n, and untouched
 // ones behind them.
 fn judge(flow: &[u8], room: &mut [u8], right: &[u8], n: usize) -> Outcome
-    requires { ⌜ length (now room) ≡ length (now right) ⌝ }
+    ensures { λ r. ⌜ OnlyIf (now (room .exit) ≡ now (right .entry)) r ⌝ }
 {
     match reports::report(flow, room) {
         Reported::Text(len) => {
             if len != n {
                 return Outcome::Length(len);
             }
-            compare(room, right)
+            lists::compare(room, right)
         }
-        Reported::TooShort => Outcome::Refused,
+        Reported::TooShort => Outcome::Refused(6),
     }
 }
 
 // The same where the right bytes are still to be made, of the text in front of untouched ones.
 fn judge_against(flow: &[u8], text: &[u8], room: &mut [u8], right: &mut [u8]) -> Outcome
-    requires { ⌜ (length (now room) ≡ length (now right)) × (length (now text) ≤ length (now right)) ⌝ }
+    requires { ⌜ length (now text) ≤ length (now right) ⌝ }
 {
     bytes::copy(text, right);
     judge(flow, room, right, text.len())
@@ -141,59 +107,15 @@ fn replay_case(list: &[u8], at: usize) -> Replayed
     }
 }
 
-// Writes the line of a case that does not come to what it ought to, and gives 1; for any other 0.
-fn tell(k: u64, outcome: Outcome) -> u64
-    ensures { λ r. ⌜ r ≤ 1 ⌝ }
-{
-    match outcome {
-        Outcome::Same => return 0,
-        Outcome::Refused => lists::say(b"case ", k, b": a room that holds the report is refused\n"),
-        Outcome::Taken => lists::say(b"case ", k, b": a room one byte too short is taken\n"),
-        Outcome::Length(n) => {
-            lists::say(b"case ", k, b": the report's length, ours ");
-            lists::say(b"", n as u64, b"\n");
-        }
-        Outcome::Text(p) => {
-            lists::say(b"case ", k, b": byte ");
-            lists::say(b"", p.at as u64, b" of the report: stored ");
-            lists::say(b"", p.right, b", ours ");
-            lists::say(b"", p.ours, b"\n");
-        }
-    }
-    1
-}
-
 // Replays every case of a list.
 fn replay(list: &[u8])
     requires { ⌜ length (now list) ≤ 400001 ⌝ }
 {
-    let cases = match lists::opening(list) {
-        Number::Read(cases) => cases,
-        Number::Fault(fault) => {
-            lists::no_list(fault);
-            return;
-        }
-    };
-    let mut at = cases.next;
-    let mut k: u64 = 0;
-    let mut differ: u64 = 0;
-    while k < cases.value {
-        match replay_case(list, at) {
-            Replayed::Case { outcome, next } => {
-                differ += tell(k, outcome);
-                at = next;
-            }
-            Replayed::Fault(fault) => {
-                lists::no_list(fault);
-                return;
-            }
-        }
-        k += 1;
+    let mut run = lists::begin(list);
+    while run.k < run.cases {
+        run = lists::past(run, replay_case(list, run.at));
     }
-    match lists::closing(list, at) {
-        Passed::Next(_) => lists::totals(k, differ),
-        Passed::Fault(fault) => lists::no_list(fault),
-    }
+    lists::end(list, run);
 }
 
 // Room for a list, and one byte more, so that a longer one is seen.

@@ -6,19 +6,22 @@ use borrow.Author.Needs.{needs}
 use Rattle.replay_charts.proofs.judge.Statement.{statement}
 use Rattle.replay_charts.proofs.judge.Tie as tie
 
-still : (n a b : ℕ) → a ≡ b → (n ≤ b) × (b ≤ 4100) → (n ≤ a) × (a ≤ 4100)
-still n a b e h = (omega (arith, e, h .0), omega (arith, e, h .1))
+still : {m n a b : ℕ} → m ≤ n → n ≤ b → a ≡ b → m ≤ a
+still h k e = omega (arith, h, k, e)
 
 answers-of-requires : tie.Need-answers-of-requires
 answers-of-requires c κs = search needs
 
+left-by-requires : tie.Need-left-by-requires
+left-by-requires c κs = search needs
+
 hold-requires : tie.Need-hold-requires
 hold-requires c κs =
-    let a = c .before .before .before .before .before .before .before .before .before .before .before .before in
-    let p = a .before .before .before .before .before .before .before .before .before .before .before .before .pre in
-    let k = a .answers-of .kept .1 .1 in (
-      still _ _ _ (k .0) (p .0),
-      (still _ _ _ (k .1 .0) (p .1 .0), (still _ _ _ (k .1 .1 .0) (p .1 .1 .0), still _ _ _ (k .1 .1 .1 .0) (p .1 .1 .1))),
+    let p = c .before .before .before .before .before .before .before .before .before .before .before .before .before .before .before .before .before .before .before .before .before .before .before .before .pre in
+    let l = c .before .before .before .before .left-by .ensures in
+    let k = c .before .before .before .before .before .before .before .before .before .before .before .before .before .answers-of .kept .1 .1 in (
+      (still (l .0) (p .0 .0) (k .0), still (l .1) (p .0 .1) (k .1 .0)),
+      (still (l .0) (p .1 .0) (k .1 .1 .0), still (l .1) (p .1 .1) (k .1 .1 .1 .0)),
     )
 
 same-length : tie.Need-same-length
@@ -41,6 +44,7 @@ judge-spec =
     tie.close
     (tie.spec
     answers-of-requires
+    left-by-requires
     hold-requires
     same-length
     same-length-2

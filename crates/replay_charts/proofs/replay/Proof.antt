@@ -1,33 +1,19 @@
--- `replay` is safe and ends. The invariant of its loop: no more cases differ than were replayed, and the lent slice keeps its length. The
--- measure is how many are left. Assumes nothing.
-use Prim.Native.Nat.{_-_, _≤_}
+-- `replay` is safe and ends. The invariant of its loop: the lent slice keeps its length. The measure is how many cases are left. Assumes nothing.
+use Prim.Native.Nat.{_-_}
 use mathlib.Core.Path.{_≡_}
-use borrow.Author.Needs.{needs}
 use lib.ListN.{length}
+use borrow.Author.Needs.{needs}
 use Rattle.replay_charts.proofs.replay.Statement.{statement}
 use Rattle.replay_charts.proofs.replay.Tie as tie
 
 abbrev Inv-loop : tie.InvT-loop
-Inv-loop list values₀ cases at₀ k₀ differ₀ values at k differ =
-    (differ ≤ k) × (k ≤ cases .value) × (length values ≡ length values₀)
+Inv-loop list values₀ run₀ values run = length values ≡ length values₀
 
 abbrev μ-loop : tie.MeasureT-loop
-μ-loop list values₀ cases at₀ k₀ differ₀ values at k differ = cases .value - k
+μ-loop list values₀ run₀ values run = run .cases - run .k
 
-opening-requires : tie.Need-opening-requires Inv-loop μ-loop
-opening-requires c κs = search needs
-
-enum-known-cases : tie.Need-enum-known-cases Inv-loop μ-loop
-enum-known-cases c = search needs
-
-enum-known-fault : tie.Need-enum-known-fault Inv-loop μ-loop
-enum-known-fault c = search needs
-
-no-list-requires : tie.Need-no-list-requires Inv-loop μ-loop
-no-list-requires c κs = search needs
-
-returns : tie.Need-returns Inv-loop μ-loop
-returns c = search needs
+begin-requires : tie.Need-begin-requires Inv-loop μ-loop
+begin-requires c κs = search needs
 
 loop-holds : tie.Need-loop-holds Inv-loop μ-loop
 loop-holds c = search needs
@@ -35,62 +21,23 @@ loop-holds c = search needs
 replay-case-requires : tie.Need-replay-case-requires Inv-loop μ-loop
 replay-case-requires c κs = search needs
 
-enum-known-outcome : tie.Need-enum-known-outcome Inv-loop μ-loop
-enum-known-outcome c = search needs
-
-tell-requires : tie.Need-tell-requires Inv-loop μ-loop
-tell-requires c κs = search needs
-
-add-differ : tie.Need-add-differ Inv-loop μ-loop
-add-differ c = search needs
-
-enum-known-fault-2 : tie.Need-enum-known-fault-2 Inv-loop μ-loop
-enum-known-fault-2 c = search needs
-
-no-list-requires-2 : tie.Need-no-list-requires-2 Inv-loop μ-loop
-no-list-requires-2 c κs = search needs
-
-same-length : tie.Need-same-length Inv-loop μ-loop
-same-length c = search needs
-
-returns-2 : tie.Need-returns-2 Inv-loop μ-loop
-returns-2 c = search needs
-
-add-k : tie.Need-add-k Inv-loop μ-loop
-add-k c = search needs
+past-requires : tie.Need-past-requires Inv-loop μ-loop
+past-requires c κs = search needs
 
 loop-less : tie.Need-loop-less Inv-loop μ-loop
-loop-less c = search needs
+loop-less c = c .past .ensures .1 (c .before .before .before .before .before .if1 .taken)
 
 loop-again : tie.Need-loop-again Inv-loop μ-loop
 loop-again c = search needs
 
-closing-requires : tie.Need-closing-requires Inv-loop μ-loop
-closing-requires c κs = search needs
+end-requires : tie.Need-end-requires Inv-loop μ-loop
+end-requires c κs = search needs
 
-enum-told : tie.Need-enum-told Inv-loop μ-loop
-enum-told c = search needs
+same-length : tie.Need-same-length Inv-loop μ-loop
+same-length c = search needs
 
-totals-requires : tie.Need-totals-requires Inv-loop μ-loop
-totals-requires c κs = search needs
-
-enum-known-fault-3 : tie.Need-enum-known-fault-3 Inv-loop μ-loop
-enum-known-fault-3 c = search needs
-
-no-list-requires-3 : tie.Need-no-list-requires-3 Inv-loop μ-loop
-no-list-requires-3 c κs = search needs
-
-same-length-2 : tie.Need-same-length-2 Inv-loop μ-loop
-same-length-2 c = search needs
-
-returns-3 : tie.Need-returns-3 Inv-loop μ-loop
-returns-3 c = search needs
-
-same-length-3 : tie.Need-same-length-3 Inv-loop μ-loop
-same-length-3 c = search needs
-
-returns-4 : tie.Need-returns-4 Inv-loop μ-loop
-returns-4 c = search needs
+returns : tie.Need-returns Inv-loop μ-loop
+returns c = search needs
 
 pub replay-spec : {M : Type 1} → statement M
 replay-spec =
@@ -98,29 +45,12 @@ replay-spec =
     (tie.spec
     Inv-loop
     μ-loop
-    opening-requires
-    enum-known-cases
-    enum-known-fault
-    no-list-requires
-    returns
+    begin-requires
     loop-holds
     replay-case-requires
-    enum-known-outcome
-    tell-requires
-    add-differ
-    enum-known-fault-2
-    no-list-requires-2
-    same-length
-    returns-2
-    add-k
+    past-requires
     loop-less
     loop-again
-    closing-requires
-    enum-told
-    totals-requires
-    enum-known-fault-3
-    no-list-requires-3
-    same-length-2
-    returns-3
-    same-length-3
-    returns-4)
+    end-requires
+    same-length
+    returns)

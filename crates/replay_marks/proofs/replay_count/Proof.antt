@@ -1,8 +1,8 @@
 -- `replay_marks::replay_count` is safe: the count that was read is at most 4,096. Assumes nothing.
 use mathlib.Core.Path.{subst}
 use native.Mathlib.Omega.{arith}
-use borrow.Author.Needs.{needs}
 use Rattle.lists.specs.Taken.{AtMost}
+use borrow.Author.Needs.{needs}
 use Rattle.replay_marks.proofs.replay_count.Statement.{statement}
 use Rattle.replay_marks.proofs.replay_count.Tie as tie
 
@@ -31,9 +31,7 @@ part-values-start : tie.Need-part-values-start
 part-values-start c = search needs
 
 part-values-end : tie.Need-part-values-end
-part-values-end c =
-    let s = c .before .before in
-    omega (arith, subst (AtMost 4096) (s .count .given .1) (s .before .before .read-small .ensures .1))
+part-values-end c = omega (arith, subst (AtMost 4096) (c .before .before .count .given .1) (c .before .before .before .before .read-small .ensures .1))
 
 sub-replay-values-2 : tie.Need-sub-replay-values-2
 sub-replay-values-2 c = search needs
@@ -42,20 +40,7 @@ part-marks-start : tie.Need-part-marks-start
 part-marks-start c = search needs
 
 part-marks-end : tie.Need-part-marks-end
-part-marks-end c =
-    let s = c .before .before .before in
-    omega (arith, subst (AtMost 4096) (s .count .given .1) (s .before .before .read-small .ensures .1))
-
-sub-replay-values-3 : tie.Need-sub-replay-values-3
-sub-replay-values-3 c = search needs
-
-part-right-start : tie.Need-part-right-start
-part-right-start c = search needs
-
-part-right-end : tie.Need-part-right-end
-part-right-end c =
-    let s = c .before .before .before .before in
-    omega (arith, subst (AtMost 4096) (s .count .given .1) (s .before .before .read-small .ensures .1))
+part-marks-end c = omega (arith, subst (AtMost 4096) (c .before .before .before .count .given .1) (c .before .before .before .before .before .read-small .ensures .1))
 
 replay-values-requires : tie.Need-replay-values-requires
 replay-values-requires c κs = search needs
@@ -79,8 +64,5 @@ replay-count-spec =
     sub-replay-values-2
     part-marks-start
     part-marks-end
-    sub-replay-values-3
-    part-right-start
-    part-right-end
     replay-values-requires
     returns-2)

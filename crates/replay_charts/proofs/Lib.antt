@@ -1,0 +1,2 @@
+-- The laws of holding a chart to what is stored.
+mod Held
