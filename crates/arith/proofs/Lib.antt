@@ -1,3 +1,4 @@
 -- Laws of the arithmetic.
 mod Folds
 mod Signs
+pub mod Means

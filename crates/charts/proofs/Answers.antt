@@ -1,28 +1,16 @@
 -- Two answers with one number and the same values are one answer: so a promise on the number and the values fixes the answer.
 -- Assumes nothing.
-use mathlib.Core.Path.{_≡_, refl, sym, ap, ap₂, _∙_}
+use mathlib.Core.Path.{_≡_, refl, sym, ap, _∙_}
 use mathlib.Core.Bool.{cond}
 use Prim.Native.Nat.{ℕ}
 use native.Mathlib.Omega.{arith}
 use lib.Dec.{eqb}
-use lib.Ieee.{Float}
 use Rattle.charts.specs.declared.Chart.{Chart}
 use Rattle.charts.specs.declared.Refusal.{Refusal}
 use Rattle.charts.specs.declared.Refusal.the-variants as refusing
 use Rattle.charts.specs.declared.Changed.{Changed}
 use Rattle.charts.specs.declared.Changed.the-variants as changing
-use Rattle.charts.specs.declared.Lengths.{Lengths}
-use Rattle.charts.specs.declared.Lengths.the-variants as measuring
-use Rattle.charts.specs.declared.Evaluated.{Evaluated}
-use Rattle.charts.specs.declared.Evaluated.the-variants as evaluating
-use Rattle.charts.specs.declared.Estimated.{Estimated}
-use Rattle.charts.specs.declared.Estimated.the-variants as estimating
-use Rattle.charts.specs.declared.Figure.{Figure}
-use Rattle.charts.specs.declared.Figure.the-variants as figuring
 use Rattle.charts.specs.Records.{number, changed}
-use Rattle.charts.specs.Series.{lengths}
-use Rattle.charts.specs.Evaluating.{evaluated}
-use Rattle.charts.specs.Sigma.{figured, estimated}
 
 -- ---- refusals
 
@@ -70,29 +58,3 @@ changed-one before (changing.Done c) (changing.Done d) e = ap changing.Done (ap 
 changed-one before (changing.Done c) (changing.Refused w) e = absurd (number-some w (sym (ap (λ p. p .0) e)))
 changed-one before (changing.Refused v) (changing.Done d) e = absurd (number-some v (ap (λ p. p .0) e))
 changed-one before (changing.Refused v) (changing.Refused w) e = ap changing.Refused (number-one v w (ap (λ p. p .0) e))
-
-pub lengths-one : (a b : Lengths) → lengths a ≡ lengths b → a ≡ b
-lengths-one (measuring.Done m d) (measuring.Done n s) e = ap₂ measuring.Done (ap (λ p. p .1) e) (ap (λ p. p .2) e)
-lengths-one (measuring.Done m d) (measuring.Refused w) e = absurd (number-some w (sym (ap (λ p. p .0) e)))
-lengths-one (measuring.Refused v) (measuring.Done n s) e = absurd (number-some v (ap (λ p. p .0) e))
-lengths-one (measuring.Refused v) (measuring.Refused w) e = ap measuring.Refused (number-one v w (ap (λ p. p .0) e))
-
-pub evaluated-one : (a b : Evaluated) → evaluated a ≡ evaluated b → a ≡ b
-evaluated-one (evaluating.Done c) (evaluating.Done d) e =
-    λ i. evaluating.Done (record { main = e i .main; dispersion = e i .dispersion; marks = e i .marks })
-evaluated-one (evaluating.Done c) (evaluating.Refused w) e = absurd (number-some w (sym (ap (λ p. p .number) e)))
-evaluated-one (evaluating.Refused v) (evaluating.Done d) e = absurd (number-some v (ap (λ p. p .number) e))
-evaluated-one (evaluating.Refused v) (evaluating.Refused w) e = ap evaluating.Refused (number-one v w (ap (λ p. p .number) e))
-
-pub estimated-one : (a b : Estimated) → estimated a ≡ estimated b → a ≡ b
-estimated-one (estimating.Done c) (estimating.Done d) e =
-    ap₂ (λ (h f : Float). estimating.Done (record { «sigma_hat» = h; «sigma_hat_df» = f })) (ap (λ p. p .1) e) (ap (λ p. p .2) e)
-estimated-one (estimating.Done c) (estimating.Refused w) e = absurd (number-some w (sym (ap (λ p. p .0) e)))
-estimated-one (estimating.Refused v) (estimating.Done d) e = absurd (number-some v (ap (λ p. p .0) e))
-estimated-one (estimating.Refused v) (estimating.Refused w) e = ap estimating.Refused (number-one v w (ap (λ p. p .0) e))
-
-pub figured-one : (a b : Figure) → figured a ≡ figured b → a ≡ b
-figured-one (figuring.Done x) (figuring.Done y) e = ap figuring.Done (ap (λ p. p .1) e)
-figured-one (figuring.Done x) (figuring.Refused w) e = absurd (number-some w (sym (ap (λ p. p .0) e)))
-figured-one (figuring.Refused v) (figuring.Done y) e = absurd (number-some v (ap (λ p. p .0) e))
-figured-one (figuring.Refused v) (figuring.Refused w) e = ap figuring.Refused (number-one v w (ap (λ p. p .0) e))

@@ -1,11 +1,10 @@
--- What goes by the kind or by the series, case by case. Assumes nothing.
+-- What goes by the kind, case by case. Assumes nothing.
 use mathlib.Core.Path.{_≡_, refl, sym, _∙_}
 use mathlib.Core.Bool.{Bool, true, false, cond, not, _||_}
 use Prim.Native.Nat.{ℕ}
 use borrow.Author.Tests.{eq-eqb, ne-eqb}
 use lib.Dec.{eqb}
 use Rattle.charts.specs.Records.{byKind}
-use Rattle.charts.specs.Series.{bySeries}
 
 module _ {A : Type 0} (kind : ℕ) (individuals ranges deviations : A) where
   pub kind-1 : kind ≡ 1 → byKind kind individuals ranges deviations ≡ individuals
@@ -28,15 +27,6 @@ subgroups kind individuals both ne = rw (ne-eqb kind 1 ne) (same (eqb kind 2))
     same : (b : Bool) → cond b both both ≡ both
     same true = refl
     same false = refl
-
-module _ {A : Type 0} (s : ℕ) (main dispersion : A) where
-  pub series-0 : s ≡ 0 → bySeries s main dispersion ≡ main
-  unfolding bySeries
-  series-0 e = rw (eq-eqb s 0 e)
-
-  pub series-1 : (s ≡ 0 → ⊥) → bySeries s main dispersion ≡ dispersion
-  unfolding bySeries
-  series-1 ne = rw (ne-eqb s 0 ne)
 
 -- ---- what a function's answer tells of the test that it stands for
 

@@ -1,8 +1,2 @@
--- What the charts compute and answer, in the order in which to read it.
-pub mod Factors
+-- The record of a chart and what its calls answer.
 pub mod Records
-pub mod Series
-pub mod Limits
-pub mod Evaluating
-pub mod Sigma
-pub mod Steps

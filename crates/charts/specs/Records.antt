@@ -61,11 +61,22 @@ ownWrong c = kindWrong (c .kind) || sizeWrong (c .kind) (c .size) || ltb most (c
 unfoldable pub recordWrong : Chart → ℕ → Bool
 recordWrong c room = ownWrong c || ltb room (c .count * c .size)
 
+-- ---- a chart with one number changed
+
+abbrev pub withSet : Chart → RuleSet → Chart
+withSet c set = record { kind = c .kind; size = c .size; count = c .count; set = set }
+
+abbrev pub withCount : Chart → ℕ → Chart
+withCount c count = record { kind = c .kind; size = c .size; count = count; set = c .set }
+
 -- ---- "New chart: 14 for the kind, 1."
 
 -- "A new chart has shewhart."
 abbrev pub newSet : RuleSet
 newSet = record { mask = 1 }
+
+abbrev pub newChart : ℕ → ℕ → Chart
+newChart kind size = record { kind = kind; size = size; count = 0; set = newSet }
 
 -- "all zero for a refused new chart"
 abbrev pub noChart : Chart
@@ -75,7 +86,7 @@ unfoldable pub newOf : ℕ → ℕ → ℕ × Chart
 newOf kind size =
     firstOf
     ((kindWrong kind, (14, noChart)) ∷ (sizeWrong kind size, (1, noChart)) ∷ [])
-    (0, record { kind = kind; size = size; count = 0; set = newSet })
+    (0, newChart kind size)
 
 -- ---- "Changing a chart's set, with no slice: 14, 4."
 
@@ -83,7 +94,7 @@ unfoldable pub withSetOf : Chart → RuleSet → ℕ × Chart
 withSetOf c set =
     firstOf
     ((ownWrong c, (14, c)) ∷ (tooLarge (set .mask), (4, c)) ∷ [])
-    (0, record { kind = c .kind; size = c .size; count = c .count; set = set })
+    (0, withSet c set)
 
 -- ---- "Add: 14, 2, 3, 5, 6."
 
@@ -96,7 +107,7 @@ addOf c values sample =
     ∷ (leb most (c .count), (5, c))
     ∷ (ltb (length values) (c .count * c .size + c .size), (6, c))
     ∷ [])
-    (0, record { kind = c .kind; size = c .size; count = c .count + 1; set = c .set })
+    (0, withCount c (c .count + 1))
 
 -- "Adding appends one sample, as to a list": the values after the number n was answered. A refusal leaves them as they came.
 unfoldable pub valuesAfter : ℕ → Chart → List Float → List Float → List Float

@@ -7,11 +7,10 @@ use native.Mathlib.Omega.{arith}
 use mathlib.Core.Path.{_≡_, refl, sym, ap, ap₂, _∙_, subst}
 use mathlib.Core.Bool.{Bool, true, false}
 use mathlib.Core.List.{List, [], _∷_, _++_, append-nil}
-use lib.ListN.{length, drop, take, getD}
+use lib.ListN.{length, drop, getD}
 use lib.Seq.{drop-append-seam, drop-cons, drop-drop, drop-length}
 use lib.Dec.{ltb, eqb}
 use borrow.Author.Tests.{lt-ltb, le-ltb, ltb-true, ltb-false, eqb-true, eqb-false}
-use Rattle.groups.specs.declared.Reading.{Reading}
 use Rattle.groups.specs.declared.Reading.the-variants.{Number, Fault}
 use Rattle.groups.specs.Groups.{groups, Front, some, none, before, front, readAs, numberAt}
 use Rattle.groups.proofs.Strings.{by-groups, groups-one, groups-more, before-some, before-zero, front-one, front-more}

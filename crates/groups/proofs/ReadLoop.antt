@@ -1,6 +1,6 @@
 -- The loop that reads a number, on plain numbers and in the code's own masks and shifts: the groups read so far, in front of what
 -- is left, decide what is read. Assumes nothing.
-use Prim.Native.Nat.{ℕ, zero, suc, _+_, _*_, _%_, _^_, _≤_, _<_}
+use Prim.Native.Nat.{ℕ, suc, _+_, _*_, _%_, _^_, _≤_, _<_}
 use native.Mathlib.Omega.{arith}
 use native.Mathlib.Nat.{add-mul, mul-assoc, mul-comm, add-comm}
 use native.Mathlib.Numerals.{add-one}

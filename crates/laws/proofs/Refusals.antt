@@ -5,7 +5,7 @@ use mathlib.Core.List.{List, [], _∷_, _++_, map}
 use Prim.Native.Nat.{ℕ, _≤_, _<_}
 use native.Mathlib.Omega.{arith}
 use lib.Dec.{ltb, leb, eqb}
-use borrow.Author.Tests.{ltb-true, leb-true, ne-eqb}
+use borrow.Author.Tests.{ltb-true, leb-true, le-leb, ne-eqb}
 use Rattle.laws.specs.Bools.{every}
 use Rattle.laws.specs.Refusals.{firstOf, each}
 use Rattle.laws.proofs.Bools.{both}
@@ -79,14 +79,17 @@ were-passed (c ∷ cs) h e =
     let here = accepted (c .0) (c .1) cs (ltb-true 0 (c .1) (both-so .0)) e in
     (here .0, were-passed cs (both-so .1) (here .1))
 
--- the first number is no larger than the largest
-pub first-under : (top : ℕ) (cs : List (Bool × ℕ)) → every (map (λ (c : Bool × ℕ). leb (c .1) top) cs) ≡ true → firstOf cs 0 ≤ top
+-- what holds of every number, and of 0, holds of the first
+pub first-such : (p : ℕ → Bool) (cs : List (Bool × ℕ)) → every (map (λ (c : Bool × ℕ). p (c .1)) cs) ≡ true → p 0 ≡ true → p (firstOf cs 0) ≡ true
 unfolding firstOf every
-first-under top [] h = omega arith
-first-under top (c ∷ cs) h =
-    let both-so = both (leb (c .1) top) (every (map (λ (d : Bool × ℕ). leb (d .1) top) cs)) h in
-    by (c .0) (leb-true (c .1) top (both-so .0)) (first-under top cs (both-so .1))
+first-such p [] h z = z
+first-such p (c ∷ cs) h z =
+    let both-so = both (p (c .1)) (every (map (λ (d : Bool × ℕ). p (d .1)) cs)) h in by (c .0) (both-so .0) (first-such p cs (both-so .1) z)
   where
-    by : (b : Bool) → c .1 ≤ top → firstOf cs 0 ≤ top → cond b (c .1) (firstOf cs 0) ≤ top
+    by : (b : Bool) → p (c .1) ≡ true → p (firstOf cs 0) ≡ true → p (cond b (c .1) (firstOf cs 0)) ≡ true
     by true h e = h
     by false h e = e
+
+-- the first number is no larger than the largest
+pub first-under : (top : ℕ) (cs : List (Bool × ℕ)) → every (map (λ (c : Bool × ℕ). leb (c .1) top) cs) ≡ true → firstOf cs 0 ≤ top
+first-under top cs h = leb-true (firstOf cs 0) top (first-such (λ n. leb n top) cs h (le-leb 0 top (omega arith)))

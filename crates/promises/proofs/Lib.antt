@@ -8,6 +8,7 @@ mod Sets
 mod Rules
 mod Evidence
 mod Charts
+mod Evaluating
 mod Sheets
 mod Reports
 mod Twin

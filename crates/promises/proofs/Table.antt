@@ -30,11 +30,12 @@ use Rattle.rules.specs.Terms.{under}
 use Rattle.rules.specs.Marking.{newestFirst, stands, marksAt, marksOf, ahead, answerOf, marksAfter}
 use Rattle.arith.specs.Arith.{meanOf, signCleared, movingOf}
 use Rattle.charts.specs.declared.Chart.{Chart}
-use Rattle.charts.specs.Factors.{factorOf}
 use Rattle.charts.specs.Records.{byKind, sizeWrong, ownWrong, recordWrong, newOf}
-use Rattle.charts.specs.Series.{bySeries, individualAt, pointAt, pointsIn, seriesOf}
-use Rattle.charts.specs.Limits.{factorFor, mainLimits, lowerLimit, dispersionLimits, limitsFrom, measuredOf, measured}
-use Rattle.charts.specs.Evaluating.{tooFew, noRoom, answerFor, evaluateOf, lentAfter}
+use Rattle.evaluating.specs.Asked.{asked}
+use Rattle.evaluating.specs.Factors.{factorOf}
+use Rattle.evaluating.specs.Series.{bySeries, pointAt, pointsIn, seriesOf}
+use Rattle.evaluating.specs.Limits.{factorFor, mainLimits, lowerLimit, dispersionLimits, centreOf, limitsOf}
+use Rattle.evaluating.specs.Evaluating.{tooFew, noRoom, sound, answerFor, evaluateOf, lentAfter}
 use Rattle.sheets.specs.Sheet.{marked, entriesOf, sheetOf}
 use Rattle.sheets.specs.Said.{entries, saidFrom}
 use Rattle.sheets.specs.Answers.{firstWrong, checkOf, seriesSheet, writeOf, roomAfter}
@@ -213,13 +214,14 @@ two = record { kind = 1; size = 1; count = 2; set = record { mask = 1 } }
 
 -- `evaluate` takes the two observations, and the slice for their moving range, with a NaN in it before, then holds it
 ranging : List Float → ℕ → Bool
-unfolding two same evaluateOf answerFor firstOf recordWrong ownWrong sizeWrong tooFew noRoom allFinite finite finiteLimits every lentAfter
-    measured measuredOf limitsFrom mainLimits dispersionLimits lowerLimit factorFor factorOf
-    seriesOf tabulateFrom pointAt pointsIn byKind bySeries individualAt movingOf signCleared meanOf
+unfolding two same evaluateOf answerFor firstOf recordWrong ownWrong sizeWrong tooFew noRoom sound allFinite finite finiteLimits every lentAfter
+    limitsOf centreOf mainLimits dispersionLimits lowerLimit factorFor factorOf
+    seriesOf tabulateFrom pointAt pointsIn byKind bySeries movingOf signCleared meanOf
     ofBits toBits ofInt round add sub mul div
 ranging values r =
-    eqb (evaluateOf two values 2 1 2 1 .number) 0
-    && same (map (toBits binary64) (lentAfter (evaluateOf two values 2 1 2 1 .number) plusZero (seriesOf two 1 values) (nan ∷ []))) (r ∷ [])
+    let question = asked two values in
+    let number = evaluateOf question (noRoom two 2 1 2 1) .number in
+    eqb number 0 && same (map (toBits binary64) (lentAfter number plusZero (seriesOf question 1) (nan ∷ []))) (r ∷ [])
 
 holds : Claim → Bool
 unfolding half same positions marking sameChart newOf firstOf sizeWrong byKind sheeting numbering isFault numberAt isRoot rootOf ranging

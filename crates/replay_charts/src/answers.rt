@@ -1,7 +1,7 @@
 // What a chart of ours answers. The calls of evaluating and of the sigma figures stand here alone.
 use charts::Chart;
-use charts::Evaluated;
-use charts::Figure;
+use evaluating::Evaluated;
+use evaluating::Figure;
 use rules::Limits;
 
 /// A sigma figure: 01's number, and the figure where that is 0.
@@ -71,12 +71,19 @@ pub fn answers_of(
     main_marks: &mut [u16],
     dispersion_marks: &mut [u16],
 ) -> Answers {
-    let evaluated = chart.evaluate(values, main, dispersion, main_marks, dispersion_marks);
+    let evaluated = evaluating::evaluate(
+        chart,
+        values,
+        main,
+        dispersion,
+        main_marks,
+        dispersion_marks,
+    );
     Answers {
         number: evaluated.number(),
         found: found_of(evaluated),
         none_stands: evaluated.none_stands(),
-        sigma_hat: told_of(chart.sigma_hat(values)),
-        sigma_hat_df: told_of(chart.sigma_hat_df(values)),
+        sigma_hat: told_of(evaluating::sigma_hat(chart, values)),
+        sigma_hat_df: told_of(evaluating::sigma_hat_df(chart, values)),
     }
 }

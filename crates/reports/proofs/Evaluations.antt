@@ -1,8 +1,8 @@
 -- Evaluating the chart of a flow file: nothing but 8 and 7 can be refused once its values are finite, and each answer is what the report
 -- tells. Assumes nothing.
 use mathlib.Core.Path.{_≡_, refl, sym, ap, ap₂, _∙_}
-use mathlib.Core.Bool.{Bool, true, false, cond, not}
-use mathlib.Core.List.{List, _∷_, _++_}
+use mathlib.Core.Bool.{Bool, true, false, not}
+use mathlib.Core.List.{List}
 use Prim.Native.Nat.{ℕ, _+_, _-_, _*_, _≤_}
 use native.Mathlib.Nat.{mul-le-mul-left, le-of-eq, sub-zero}
 use native.Mathlib.Decide.{ℕ-discrete}
@@ -15,37 +15,43 @@ use lib.Seq.{take-all, take-at}
 use Rattle.laws.specs.Refusals.{firstOf}
 use Rattle.laws.proofs.Lists.{length-tabulate}
 use Rattle.laws.proofs.Refusals.{accepted}
-use Rattle.rules.specs.declared.Limits.{Limits}
 use Rattle.floats.specs.Finite.{allFinite}
+use Rattle.rules.specs.declared.Limits.{Limits}
 use Rattle.rules.specs.Finite.{finiteLimits}
+use Rattle.rules.specs.Marking.{marksOf}
 use Rattle.charts.specs.declared.Chart.{Chart}
 use Rattle.charts.specs.declared.Refusal.{Refusal}
-use Rattle.charts.specs.declared.Evaluation.{Evaluation}
-use Rattle.charts.specs.declared.Evaluated.the-variants.{Done, Refused}
 use Rattle.charts.specs.Records.{number, byKind, recordWrong}
-use Rattle.rules.specs.Marking.{marksOf}
-use Rattle.charts.specs.Series.{bySeries, pointsIn, pointAt, seriesOf}
-use Rattle.charts.specs.Evaluating.{Answer, evaluated, tooFew, noRoom, storedIn, aheadOf7, at7, limitsOf, seriesMarks, numberOf, answerFor, evaluateOf, lentAfter}
-use Rattle.charts.proofs.Held.{own}
-use Rattle.charts.specs.Limits.{measured}
 use Rattle.charts.proofs.Cases.{kind-1, subgroups}
-use Rattle.charts.proofs.Points.{points-most, points-main, points-subgroups}
-use Rattle.charts.proofs.Outcomes.{Sound, some-held, sound-parts}
+use Rattle.charts.proofs.Held.{own}
+use Rattle.evaluating.specs.declared.Evaluation.{Evaluation}
+use Rattle.evaluating.specs.declared.Evaluated.the-variants.{Done, Refused}
+use Rattle.evaluating.specs.Asked as asking
+use Rattle.evaluating.specs.Asked.{Asked}
+use Rattle.evaluating.specs.Series.{pointsIn, seriesOf}
+use Rattle.evaluating.specs.Limits.{limitsOf}
+use Rattle.evaluating.specs.Evaluating.{Answer, evaluated, tooFew, noRoom, sound, refusals, seriesMarks, numberOf, answerFor, evaluateOf, lentAfter}
+use Rattle.evaluating.proofs.SeriesPoints.{points-most, points-moving, points-subgroups, length-series}
+use Rattle.evaluating.proofs.Outcomes.{Sound, some-held, sound-parts}
 use Rattle.reports.specs.Text.{bothMarks, chartText, rLine}
 use Rattle.reports.specs.Report.{firstIndex, refusalOf, chartReport}
 use Rattle.reports.specs.Steps.{size, Legal}
 
 -- ---- the number of an answer
 
-number-is : (n : ℕ) (c : Chart) (values : List Float) → answerFor n c values .number ≡ n
+number-is : (n : ℕ) (a : Asked) → answerFor n a .number ≡ n
 unfolding answerFor
-number-is n c values = by (eqb n 0) refl
+number-is n a = by (eqb n 0) refl
   where
-    by : (b : Bool) → eqb n 0 ≡ b → answerFor n c values .number ≡ n
+    by : (b : Bool) → eqb n 0 ≡ b → answerFor n a .number ≡ n
     by true e = rw e (sym (eqb-true n 0 e))
     by false e = rw e refl
 
 -- ---- evaluating
+
+-- whether a room of 2,048 for each slice is too short
+abbrev pub short : Chart → Bool
+short c = noRoom c 2048 2048 2048 2048
 
 module _ (c : Chart) (h : Legal c) where
   pub few-samples : c .count ≤ 2048
@@ -56,102 +62,102 @@ module _ (c : Chart) (h : Legal c) where
   pub points-fit : (s : ℕ) → pointsIn c s ≤ 2048
   points-fit s = omega (arith, points-most c s, few-samples)
 
-  rooms : noRoom c 2048 2048 2048 2048 ≡ false
+  rooms : short c ≡ false
   unfolding noRoom
   rooms = rw (le-ltb 2048 (pointsIn c 0) (points-fit 0), le-ltb 2048 (pointsIn c 1) (points-fit 1)) refl
 
-module _ (c : Chart) (h : Legal c) (values : List Float) (whole : length values ≡ size c) (finite : allFinite values ≡ true) where
-  right : recordWrong c (length values) ≡ false
+module _ (a : Asked) (h : Legal (a .chart)) (whole : length (a .values) ≡ size (a .chart)) (finite : allFinite (a .values) ≡ true) where
+  right : recordWrong (a .chart) (length (a .values)) ≡ false
   unfolding recordWrong
-  right = rw (h .own, le-ltb (length values) (c .count * c .size) (le-of-eq (sym whole))) refl
+  right = rw (h .own, le-ltb (length (a .values)) (a .chart .count * a .chart .size) (le-of-eq (sym whole))) refl
 
-  stored : not (allFinite (storedIn c values)) ≡ false
-  stored = ap (λ (l : List Float). not (allFinite l)) (take-all (size c) values (le-of-eq whole)) ∙ ap not finite
+  stored : not (allFinite (asking.stored a)) ≡ false
+  stored = ap (λ (l : List Float). not (allFinite l)) (take-all (size (a .chart)) (a .values) (le-of-eq whole)) ∙ ap not finite
 
-  same-refusal : firstOf (aheadOf7 c values 2048 2048 2048 2048 ++ at7 c values) 0 ≡ refusalOf c values
+  same-refusal : firstOf (refusals a (short (a .chart))) 0 ≡ refusalOf a
   unfolding refusalOf firstOf
-  same-refusal = rw (right, rooms c h, stored, finite) refl
+  same-refusal = rw (right, rooms (a .chart) h, stored, finite) refl
 
-  evaluated-is : evaluateOf c values 2048 2048 2048 2048 ≡ answerFor (refusalOf c values) c values
+  evaluated-is : evaluateOf a (short (a .chart)) ≡ answerFor (refusalOf a) a
   unfolding evaluateOf
-  evaluated-is = ap (λ (n : ℕ). answerFor n c values) same-refusal
+  evaluated-is = ap (λ (n : ℕ). answerFor n a) same-refusal
 
-  pub refused-so : (why : Refusal) → evaluated (Refused why) ≡ evaluateOf c values 2048 2048 2048 2048 → number why ≡ refusalOf c values
-  refused-so why e = ap (λ (a : Answer). a .number) (e ∙ evaluated-is) ∙ number-is (refusalOf c values) c values
+  pub refused-so : (why : Refusal) → evaluated (Refused why) ≡ evaluateOf a (short (a .chart)) → number why ≡ refusalOf a
+  refused-so why e = ap (λ (r : Answer). r .number) (e ∙ evaluated-is) ∙ number-is (refusalOf a) a
 
-  module _ (e : Evaluation) (is : evaluated (Done e) ≡ evaluateOf c values 2048 2048 2048 2048) where
-    pub done-so : refusalOf c values ≡ 0
-    done-so = sym (ap (λ (a : Answer). a .number) (is ∙ evaluated-is) ∙ number-is (refusalOf c values) c values)
+  module _ (e : Evaluation) (is : evaluated (Done e) ≡ evaluateOf a (short (a .chart))) where
+    pub done-so : refusalOf a ≡ 0
+    done-so = sym (ap (λ (r : Answer). r .number) (is ∙ evaluated-is) ∙ number-is (refusalOf a) a)
 
-    all : evaluated (Done e) ≡ answerFor 0 c values
-    all = is ∙ evaluated-is ∙ ap (λ (n : ℕ). answerFor n c values) done-so
+    all : evaluated (Done e) ≡ answerFor 0 a
+    all = is ∙ evaluated-is ∙ ap (λ (n : ℕ). answerFor n a) done-so
 
-    pub main-limits : e .main ≡ limitsOf c 0 values
-    unfolding answerFor bySeries
-    main-limits = ap (λ (a : Answer). a .main) all
-
-    pub dispersion-limits : e .dispersion ≡ limitsOf c 1 values
-    unfolding answerFor bySeries
-    dispersion-limits = ap (λ (a : Answer). a .dispersion) all
-
-    pub marks-number : e .marks ≡ numberOf (seriesMarks c 0 values) + numberOf (seriesMarks c 1 values)
+    pub main-limits : e .main ≡ limitsOf a 0
     unfolding answerFor
-    marks-number = ap (λ (a : Answer). a .marks) all
+    main-limits = ap (λ (r : Answer). r .main) all
+
+    pub dispersion-limits : e .dispersion ≡ limitsOf a 1
+    unfolding answerFor
+    dispersion-limits = ap (λ (r : Answer). r .dispersion) all
+
+    pub marks-number : e .marks ≡ numberOf (seriesMarks a 0) + numberOf (seriesMarks a 1)
+    unfolding answerFor
+    marks-number = ap (λ (r : Answer). r .marks) all
 
 -- the room that the report has for the series and the marks
-pub at-room : (c : Chart) (values : List Float) {a b x y : ℕ} → a ≡ 2048 → b ≡ 2048 → x ≡ 2048 → y ≡ 2048
-    → evaluateOf c values a b x y ≡ evaluateOf c values 2048 2048 2048 2048
-at-room c values a b x y = rw (a, b, x, y) refl
+pub at-room : (a : Asked) {m d x y : ℕ} → m ≡ 2048 → d ≡ 2048 → x ≡ 2048 → y ≡ 2048
+    → evaluateOf a (noRoom (a .chart) m d x y) ≡ evaluateOf a (short (a .chart))
+at-room a m d x y = rw (m, d, x, y) refl
 
 -- ---- what is known where nothing is refused
 
-module _ (c : Chart) (values : List Float) (h : refusalOf c values ≡ 0) where
-  finite-passed : firstOf ((tooFew c, 8) ∷ at7 c values) 0 ≡ 0
+module _ (a : Asked) (h : refusalOf a ≡ 0) where
+  neither : (tooFew (a .chart) ≡ false) × (sound a ≡ true)
   unfolding refusalOf
-  finite-passed = accepted (not (allFinite values)) 3 _ (omega arith) h .1
+  neither =
+      let past-3 = accepted (not (allFinite (a .values))) 3 _ (omega arith) h .1 in
+      let past-8 = accepted (tooFew (a .chart)) 8 _ (omega arith) past-3 in
+      (past-8 .0, not-false (sound a) (accepted (not (sound a)) 7 _ (omega arith) (past-8 .1) .0))
 
-  pub some-points : 1 ≤ c .count
-  some-points = some-held c (accepted (tooFew c) 8 _ (omega arith) finite-passed .0)
+  pub some-points : 1 ≤ a .chart .count
+  some-points = some-held (a .chart) (neither .0)
 
-  sound : Sound c values
-  sound =
-      sound-parts c values
-      (not-false (measured c values .sound)
-      (accepted (not (measured c values .sound)) 7 _ (omega arith) (accepted (tooFew c) 8 _ (omega arith) finite-passed .1) .0))
+  parts : Sound a 0 × Sound a 1
+  parts = sound-parts a (neither .1)
 
-  pub finite-limits : (s : ℕ) → finiteLimits (limitsOf c s values) ≡ true
-  unfolding bySeries
-  finite-limits s = by (eqb s 0)
-    where
-      by : (b : Bool) → finiteLimits (cond b (measured c values .main) (measured c values .dispersion)) ≡ true
-      by true = sound .main-limits
-      by false = sound .dispersion-limits
+  pub finite-main : finiteLimits (limitsOf a 0) ≡ true
+  finite-main = parts .0 .limits
+
+  pub finite-dispersion : finiteLimits (limitsOf a 1) ≡ true
+  finite-dispersion = parts .1 .limits
 
 -- ---- the report
 
-module _ (c : Chart) (values : List Float) where
-  pub report-refused : (n : ℕ) → n ≡ refusalOf c values → (n ≡ 0 → ⊥) → rLine n ≡ chartReport c values
+module _ (a : Asked) where
+  pub report-refused : (n : ℕ) → n ≡ refusalOf a → (n ≡ 0 → ⊥) → rLine n ≡ chartReport a
   unfolding chartReport
   report-refused n e ne = rw (sym e, ne-eqb n 0 ne) refl
 
-  pub not-finite : allFinite values ≡ false → 3 ≡ refusalOf c values
+  pub not-finite : allFinite (a .values) ≡ false → 3 ≡ refusalOf a
   unfolding refusalOf firstOf
   not-finite e = rw e refl
 
-  pub report-done : {main dispersion : Limits} {marks others : List ℕ} → refusalOf c values ≡ 0
-      → main ≡ limitsOf c 0 values → dispersion ≡ limitsOf c 1 values → marks ≡ seriesMarks c 0 values → others ≡ seriesMarks c 1 values
-      → chartText (c .kind) (c .size) (c .set .mask) main dispersion (bothMarks (firstIndex c) marks others) ≡ chartReport c values
+  pub report-done : {main dispersion : Limits} {marks others : List ℕ} → refusalOf a ≡ 0
+      → main ≡ limitsOf a 0 → dispersion ≡ limitsOf a 1 → marks ≡ seriesMarks a 0 → others ≡ seriesMarks a 1
+      → chartText (a .chart .kind) (a .chart .size) (a .chart .set .mask) main dispersion (bothMarks (firstIndex (a .chart)) marks others) ≡ chartReport a
   unfolding chartReport
-  report-done e u v x y = rw (u, v, x, y, eq-eqb (refusalOf c values) 0 e) refl
+  report-done e u v x y = rw (u, v, x, y, eq-eqb (refusalOf a) 0 e) refl
 
 -- ---- points and indices
 
-pub main-points : (c : Chart) → pointsIn c 0 ≡ c .count
-main-points c = by (ℕ-discrete (c .kind) 1)
+-- the points of the second series are those from its first index on
+pub points-from : (c : Chart) → c .count - firstIndex c ≡ pointsIn c 1
+unfolding firstIndex
+points-from c = by (ℕ-discrete (c .kind) 1)
   where
-    by : Dec (c .kind ≡ 1) → pointsIn c 0 ≡ c .count
-    by (yes e) = points-main c 0 e refl
-    by (no ne) = points-subgroups c 0 ne
+    by : Dec (c .kind ≡ 1) → c .count - byKind (c .kind) 1 0 0 ≡ pointsIn c 1
+    by (yes e) = omega (arith, kind-1 {A = ℕ} (c .kind) 1 0 0 e, points-moving c 1 (λ z. omega arith) e)
+    by (no ne) = omega (arith, subgroups {A = ℕ} (c .kind) 1 0 ne, points-subgroups c 1 (λ z. omega arith) ne)
 
 pub first-small : (c : Chart) → firstIndex c ≤ 1
 unfolding firstIndex
@@ -163,12 +169,11 @@ first-small c = by (ℕ-discrete (c .kind) 1)
 
 -- ---- the marks that evaluating leaves in a slice
 
-pub length-marks : (c : Chart) (s : ℕ) (values : List Float) → length (seriesMarks c s values) ≡ pointsIn c s
-unfolding seriesMarks marksOf seriesOf
-length-marks c s values = length-tabulate _ (length (seriesOf c s values)) ∙ length-tabulate (pointAt c s values) (pointsIn c s)
+pub length-marks : (a : Asked) (s : ℕ) → length (seriesMarks a s) ≡ pointsIn (a .chart) s
+unfolding seriesMarks marksOf
+length-marks a s = length-tabulate _ (length (seriesOf a s)) ∙ length-series a s
 
-pub marks-left : (c : Chart) (s : ℕ) (values : List Float) (old now : List ℕ) (n : ℕ) → now ≡ lentAfter 0 0 (seriesMarks c s values) old
-    → n ≡ pointsIn c s → take (n - 0) now ≡ seriesMarks c s values
+pub marks-left : (a : Asked) (s : ℕ) (old now : List ℕ) (n : ℕ) → now ≡ lentAfter 0 0 (seriesMarks a s) old
+    → n ≡ pointsIn (a .chart) s → take (n - 0) now ≡ seriesMarks a s
 unfolding lentAfter
-marks-left c s values old now n e k =
-    ap₂ take (sub-zero n) e ∙ take-at (seriesMarks c s values) _ n (length-marks c s values ∙ sym k)
+marks-left a s old now n e k = ap₂ take (sub-zero n) e ∙ take-at (seriesMarks a s) _ n (length-marks a s ∙ sym k)

@@ -19,9 +19,9 @@ use Rattle.rules.specs.Tests.{steps, alternating, window, shows}
 use Rattle.rules.specs.Marking.{newestFirst, stands, marksAt, marksOf}
 use Rattle.arith.specs.Arith.{meanOf, signCleared, movingOf}
 use Rattle.charts.specs.Records.{byKind, sizeWrong}
-use Rattle.charts.specs.Series.{bySeries, individualAt, pointAt, pointsIn, seriesOf}
-use Rattle.charts.specs.Limits.{factorFor, mainLimits, lowerLimit, dispersionLimits, limitsFrom, measuredOf, measured}
-use Rattle.charts.specs.Evaluating.{tooFew, seriesMarks}
+use Rattle.evaluating.specs.Series.{bySeries, pointAt, pointsIn, seriesOf}
+use Rattle.evaluating.specs.Limits.{factorFor, mainLimits, lowerLimit, dispersionLimits, centreOf, limitsOf}
+use Rattle.evaluating.specs.Evaluating.{tooFew, sound, seriesMarks}
 use Rattle.reports.specs.Flow.{valuesFrom, headFrom, flowOf}
 use Rattle.reports.specs.Text.{glyph, decimal, digits, spaced, vLines, marksIn, listed, chartText}
 use Rattle.reports.specs.Report.{firstIndex, refusalOf, chartReport, textOf}
@@ -53,8 +53,8 @@ worked-report : textOf (0x01 ∷ 0x01 ∷ 0x40 ∷ 0x10 ∷ eights 16)
     ∷ "E 3"
     ∷ [])
 unfolding eights lines textOf flowOf headFrom valuesFrom numberAt chartReport refusalOf firstIndex firstOf tooFew sizeWrong byKind
-    allFinite finite finiteLimits every count measured measuredOf limitsFrom mainLimits dispersionLimits lowerLimit factorFor
-    seriesOf tabulateFrom pointAt pointsIn bySeries individualAt movingOf signCleared meanOf seriesMarks
+    allFinite finite finiteLimits every count sound limitsOf centreOf mainLimits dispersionLimits lowerLimit factorFor
+    seriesOf tabulateFrom pointAt pointsIn bySeries movingOf signCleared meanOf seriesMarks
     marksOf marksAt newestFirst stands window shows tests bitOf has setOf hasBit fromBits steps alternating linesOf oneSigma twoSigma
     glyph decimal digits spaced vLines marksIn listed chartText
     ofBits toBits ofInt round add sub mul div lt le

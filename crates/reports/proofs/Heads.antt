@@ -14,7 +14,7 @@ use Rattle.laws.specs.Refusals.{firstOf}
 use Rattle.charts.specs.declared.Chart.{Chart}
 use Rattle.charts.specs.declared.Refusal.{Refusal}
 use Rattle.charts.specs.declared.Changed.the-variants.{Done, Refused}
-use Rattle.charts.specs.Records.{number, changed, noChart, newOf, kindWrong, sizeWrong, ownWrong}
+use Rattle.charts.specs.Records.{number, changed, noChart, newChart, newOf, withSet, withCount, kindWrong, sizeWrong, ownWrong}
 use Rattle.charts.proofs.Cases.{or-left, or-right}
 use Rattle.charts.proofs.Answers.{number-some}
 use Rattle.reports.specs.Flow.{Said, refused, countWrong}
@@ -32,40 +32,38 @@ module _ (why : ℕ) (wrong : ℕ → Bool) (s : List ℕ) (at : ℕ) (rest : �
   pub goes : {v next : ℕ} → Passed wrong s at v next → flow.number why wrong s at rest ≡ rest v next
   goes {v} {next} p = in-place (refused 12) (refused why) (λ v. not (wrong v)) s at rest v next (p .stands) (ap not (p .right))
 
--- ---- a size is wrong exactly if no chart can be made of it
+-- ---- a chart can be made exactly if its size is not wrong
 
 module _ (kind size : ℕ) (k : kindWrong kind ≡ false) where
-  made : newOf kind size .0 ≡ cond (sizeWrong kind size) 1 0
+  new-is : newOf kind size ≡ cond (sizeWrong kind size) (1, noChart) (0, newChart kind size)
   unfolding newOf firstOf
-  made = rw k (by _ _ (sizeWrong kind size))
-    where
-      by : (none some : Chart) (b : Bool) → cond {A = ℕ × Chart} b (1, none) (0, some) .0 ≡ cond b 1 0
-      by none some true = refl
-      by none some false = refl
+  new-is = rw k refl
 
-  pub size-taken : (c : Chart) → changed noChart (Done c) ≡ newOf kind size → false ≡ sizeWrong kind size
-  size-taken c e = by (sizeWrong kind size) (ap (λ p. p .0) e ∙ made)
+  pub chart-made : (c : Chart) → changed noChart (Done c) ≡ newOf kind size → (sizeWrong kind size ≡ false) × (c ≡ newChart kind size)
+  chart-made c e = by (sizeWrong kind size) (e ∙ new-is)
     where
-      by : (b : Bool) → _≡_ {A = ℕ} 0 (cond b 1 0) → false ≡ b
-      by true z = absurd (omega arith)
-      by false z = refl
+      by : (b : Bool) → (0, c) ≡ cond {A = ℕ × Chart} b (1, noChart) (0, newChart kind size) → (b ≡ false) × (c ≡ newChart kind size)
+      by true z = absurd (let n = ap (λ (p : ℕ × Chart). p .0) z in omega arith)
+      by false z = (refl, ap (λ (p : ℕ × Chart). p .1) z)
 
-  pub size-refused : (why : Refusal) → changed noChart (Refused why) ≡ newOf kind size → true ≡ sizeWrong kind size
-  size-refused why e = by (sizeWrong kind size) (ap (λ p. p .0) e ∙ made)
+  pub none-made : (why : Refusal) → changed noChart (Refused why) ≡ newOf kind size → sizeWrong kind size ≡ true
+  none-made why e = by (sizeWrong kind size) (e ∙ new-is)
     where
-      by : (b : Bool) → number why ≡ cond b 1 0 → true ≡ b
+      by : (b : Bool) → (number why, noChart) ≡ cond {A = ℕ × Chart} b (1, noChart) (0, newChart kind size) → b ≡ true
       by true z = refl
-      by false z = absurd (number-some why z)
+      by false z = absurd (number-some why (ap (λ (p : ℕ × Chart). p .0) z))
 
 -- ---- the record that the head names
 
-module _ (kind size set count : ℕ) where
-  pub legal : kindWrong kind ≡ false → sizeWrong kind size ≡ false → set ≤ 511 → countWrong size count ≡ false
-      → Legal (record { kind = kind; size = size; count = count; set = record { mask = set } })
-  unfolding ownWrong
-  legal k z t n =
-      let few = or-left (ltb 4096 count) (ltb 2048 (count * size)) n in
-      record {
-        own = rw (k, z, few, le-ltb _ set t) refl;
-        few = ltb-false 2048 (count * size) (or-right (ltb 4096 count) (ltb 2048 (count * size)) n);
-      }
+abbrev pub named : ℕ → ℕ → ℕ → ℕ → Chart
+named kind size set count = withCount (withSet (newChart kind size) (record { mask = set })) count
+
+pub legal : (kind size set count : ℕ) → kindWrong kind ≡ false → sizeWrong kind size ≡ false → set ≤ 511 → countWrong size count ≡ false
+    → Legal (named kind size set count)
+unfolding ownWrong
+legal kind size set count k z t n =
+    let few = or-left (ltb 4096 count) (ltb 2048 (count * size)) n in
+    record {
+      own = rw (k, z, few, le-ltb _ set t) refl;
+      few = ltb-false 2048 (count * size) (or-right (ltb 4096 count) (ltb 2048 (count * size)) n);
+    }

@@ -18,10 +18,11 @@ use Rattle.sets.proofs.Sets.{bitOf-lt}
 use Rattle.floats.specs.Finite.{allFinite}
 use Rattle.charts.specs.declared.Chart.{Chart}
 use Rattle.charts.specs.Records.{kindWrong, sizeWrong, ownWrong}
-use Rattle.charts.specs.Evaluating.{tooFew, limitsOf, seriesMarks}
-use Rattle.charts.specs.Limits.{measured}
 use Rattle.charts.proofs.Cases.{or-left, or-right}
 use Rattle.charts.proofs.Held.{own}
+use Rattle.evaluating.specs.Asked.{asked}
+use Rattle.evaluating.specs.Limits.{limitsOf}
+use Rattle.evaluating.specs.Evaluating.{tooFew, sound, seriesMarks}
 use Rattle.reports.specs.declared.Reported.{Reported}
 use Rattle.reports.specs.declared.Reported.the-variants.{Text}
 use Rattle.reports.specs.Flow.{Said, refused, flow, number, before, valuesFrom, countWrong, headFrom, flowOf}
@@ -106,21 +107,21 @@ module _ (c : Chart) (h : Legal c) (values : List Float) where
       let two = or-left (kinds || sizes) counts (or-left (kinds || sizes || counts) (tooLarge (c .set .mask)) (h .own)) in
       omega (arith, ltb-false 3 (c .kind) (or-right (ltb (c .kind) 1) (ltb 3 (c .kind)) (or-left kinds sizes two)))
 
-  chart-short : length (chartText (c .kind) (c .size) (c .set .mask) (limitsOf c 0 values) (limitsOf c 1 values)
-      (bothMarks (firstIndex c) (seriesMarks c 0 values) (seriesMarks c 1 values))) ≤ longest
+  chart-short : length (chartText (c .kind) (c .size) (c .set .mask) (limitsOf (asked c values) 0) (limitsOf (asked c values) 1)
+      (bothMarks (firstIndex c) (seriesMarks (asked c values) 0) (seriesMarks (asked c values) 1))) ≤ longest
   unfolding chartText
   chart-short =
-      let ms = seriesMarks c 0 values in
-      let os = seriesMarks c 1 values in
+      let ms = seriesMarks (asked c values) 0 in
+      let os = seriesMarks (asked c values) 1 in
       let a = listed 0 0 ms in
       let b = listed 1 (firstIndex c) os in
-      let main = limitsOf c 0 values in
-      let other = limitsOf c 1 values in
+      let main = limitsOf (asked c values) 0 in
+      let other = limitsOf (asked c values) 1 in
       let end = eLine (length (a ++ b)) in
       let few = points-fit c h 0 in
       let fewer = points-fit c h 1 in
-      let many = length-marks c 0 values in
-      let more = length-marks c 1 values in
+      let many = length-marks (asked c values) 0 in
+      let more = length-marks (asked c values) 1 in
       let p = listed-short 0 0 ms (omega arith) (omega arith) in
       let q = listed-short 1 (firstIndex c) os (omega arith) (omega (arith, first-small c)) in
       let number = length-append a b in
@@ -147,9 +148,9 @@ module _ (c : Chart) (h : Legal c) (values : List Float) where
         q .0,
       )
 
-  number-low : refusalOf c values < 100
+  number-low : refusalOf (asked c values) < 100
   unfolding refusalOf firstOf
-  number-low = by (allFinite values) (tooFew c) (measured c values .sound)
+  number-low = by (allFinite values) (tooFew c) (sound (asked c values))
     where
       by : (f t s : Bool) → cond (not f) 3 (cond t 8 (cond (not s) 7 0)) < 100
       by false t s = omega arith
@@ -157,16 +158,16 @@ module _ (c : Chart) (h : Legal c) (values : List Float) where
       by true false false = omega arith
       by true false true = omega arith
 
-  report-short : length (chartReport c values) ≤ longest
+  report-short : length (chartReport (asked c values)) ≤ longest
   unfolding chartReport
-  report-short = by (eqb (refusalOf c values) 0)
+  report-short = by (eqb (refusalOf (asked c values)) 0)
     where
       by : (b : Bool) → length (cond b
-          (chartText (c .kind) (c .size) (c .set .mask) (limitsOf c 0 values) (limitsOf c 1 values)
-          (bothMarks (firstIndex c) (seriesMarks c 0 values) (seriesMarks c 1 values)))
-          (rLine (refusalOf c values))) ≤ longest
+          (chartText (c .kind) (c .size) (c .set .mask) (limitsOf (asked c values) 0) (limitsOf (asked c values) 1)
+          (bothMarks (firstIndex c) (seriesMarks (asked c values) 0) (seriesMarks (asked c values) 1)))
+          (rLine (refusalOf (asked c values)))) ≤ longest
       by true = chart-short
-      by false = refusal-short (refusalOf c values) number-low
+      by false = refusal-short (refusalOf (asked c values)) number-low
 
 -- ---- what any bytes say: a refusal's number is small, and a chart is legal
 

@@ -12,7 +12,7 @@ use Rattle.sets.specs.declared.Test.the-variants.{BeyondLimits}
 use Rattle.sets.specs.Sets.{tests, testOf, has}
 use Rattle.sets.proofs.Sets.{bit-of-test}
 use Rattle.sets.proofs.Members.{none-tests}
-use Rattle.charts.specs.Evaluating.{numberOf}
+use Rattle.evaluating.specs.Evaluating.{numberOf}
 use Rattle.reports.specs.Text.{decimal, line, Mark, mark, vLine, vLines, marksIn, pointMarks, listed, bothMarks}
 use Rattle.reports.specs.TextSteps.{wordsFrom}
 use Rattle.reports.proofs.Words.{next-is}

@@ -10,7 +10,7 @@ use Rattle.groups.specs.Groups as groups
 use Rattle.sets.specs.Sets.{tooLarge}
 use Rattle.rules.specs.Marking.{most}
 use Rattle.charts.specs.declared.Chart.{Chart}
-use Rattle.charts.specs.Records.{kindWrong, sizeWrong}
+use Rattle.charts.specs.Records.{kindWrong, sizeWrong, withSet, withCount, newChart}
 
 pub data Said : Type 0 where
   refused : ℕ → Said
@@ -45,7 +45,7 @@ headFrom s at =
     number 1 (sizeWrong kind) s p (λ size q.
     number 4 tooLarge s q (λ set r.
     number 5 (countWrong size) s r (λ count end.
-    valuesFrom s (record { kind = kind; size = size; count = count; set = record { mask = set } }) (count * size) end))))
+    valuesFrom s (withCount (withSet (newChart kind size) (record { mask = set })) count) (count * size) end))))
 
 -- "over 24,576 bytes 12"
 unfoldable pub flowOf : List ℕ → Said

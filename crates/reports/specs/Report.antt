@@ -1,15 +1,16 @@
 -- The report of any bytes: its text, and what the call answers (01, 'The report program'; 'Numbers a call may give back', row 6).
 -- Definitions only.
 use mathlib.Core.Bool.{not, cond}
-use mathlib.Core.List.{List, _∷_}
+use mathlib.Core.List.{List, [], _∷_}
 use Prim.Native.Nat.{ℕ}
 use lib.Dec.{eqb}
-use lib.Ieee.{Float}
 use Rattle.laws.specs.Refusals.{firstOf}
 use Rattle.floats.specs.Finite.{allFinite}
 use Rattle.charts.specs.declared.Chart.{Chart}
 use Rattle.charts.specs.Records.{byKind}
-use Rattle.charts.specs.Evaluating.{tooFew, at7, limitsOf, seriesMarks}
+use Rattle.evaluating.specs.Asked.{Asked, asked}
+use Rattle.evaluating.specs.Limits.{limitsOf}
+use Rattle.evaluating.specs.Evaluating.{tooFew, sound, seriesMarks}
 use Rattle.reports.specs.declared.Reported.{Reported}
 use Rattle.reports.specs.declared.Reported.the-variants.{Text, TooShort}
 use Rattle.reports.specs.Flow.{Said, refused, flow, flowOf}
@@ -22,20 +23,20 @@ unfoldable pub firstIndex : Chart → ℕ
 firstIndex c = byKind (c .kind) 1 0 0
 
 -- "then 3, 8, 7"
-unfoldable pub refusalOf : Chart → List Float → ℕ
-refusalOf c values = firstOf ((not (allFinite values), 3) ∷ (tooFew c, 8) ∷ at7 c values) 0
+unfoldable pub refusalOf : Asked → ℕ
+refusalOf a = firstOf ((not (allFinite (a .values)), 3) ∷ (tooFew (a .chart), 8) ∷ (not (sound a), 7) ∷ []) 0
 
 -- of a chart and its values: its evaluation, or the line of a refusal
-unfoldable pub chartReport : Chart → List Float → List ℕ
-chartReport c values =
-    cond (eqb (refusalOf c values) 0)
-    (chartText (c .kind) (c .size) (c .set .mask) (limitsOf c 0 values) (limitsOf c 1 values)
-    (bothMarks (firstIndex c) (seriesMarks c 0 values) (seriesMarks c 1 values)))
-    (rLine (refusalOf c values))
+unfoldable pub chartReport : Asked → List ℕ
+chartReport a =
+    cond (eqb (refusalOf a) 0)
+    (chartText (a .chart .kind) (a .chart .size) (a .chart .set .mask) (limitsOf a 0) (limitsOf a 1)
+    (bothMarks (firstIndex (a .chart)) (seriesMarks a 0) (seriesMarks a 1)))
+    (rLine (refusalOf a))
 
 abbrev pub textOn : Said → List ℕ
 textOn (refused why) = rLine why
-textOn (flow c values) = chartReport c values
+textOn (flow c values) = chartReport (asked c values)
 
 unfoldable pub textOf : List ℕ → List ℕ
 textOf s = textOn (flowOf s)

@@ -6,7 +6,7 @@ use Prim.Native.Nat.{ℕ, suc, _≤_}
 use lib.Dec.{leb, ltb}
 use lib.ListN.{length, set}
 use Rattle.charts.specs.declared.Chart.{Chart}
-use Rattle.charts.specs.declared.Evaluation.{Evaluation}
+use Rattle.evaluating.specs.declared.Evaluation.{Evaluation}
 use Rattle.rules.specs.Finite.{finiteLimits}
 use Rattle.rules.specs.Marking.{most}
 use Rattle.reports.specs.Text.{decimal, digits, bothMarks, chartText}

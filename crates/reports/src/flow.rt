@@ -5,10 +5,9 @@ use groups::Reading;
 use rules::MOST;
 use sets::RuleSet;
 ghost use mathlib.Core.Path.{_≡_};
-ghost use mathlib.Core.Bool.{false};
 ghost use Prim.Native.Nat.{_≤_, _*_};
 ghost use lib.ListN.{length};
-ghost use Rattle.charts.specs.Records.{kindWrong, sizeWrong};
+ghost use Rattle.charts.specs.Records.{kindWrong};
 ghost use Rattle.reports.specs.Flow.{valuesFrom, headFrom, flowOf, countWrong};
 ghost use Rattle.reports.specs.Steps.{size, Legal, afterHead, LegalHead, saidBy, LegalFlow};
 
@@ -28,17 +27,6 @@ fn kind_wrong(kind: u64) -> bool
     ensures { λ r. ⌜ r ≡ kindWrong kind ⌝ }
 {
     (kind < 1) | (3 < kind)
-}
-
-// Whether the size is not one of a kind that is 1 to 3.
-fn size_wrong(kind: u64, size: u64) -> bool
-    requires { ⌜ kindWrong kind ≡ false ⌝ }
-    ensures { λ r. ⌜ r ≡ sizeWrong kind size ⌝ }
-{
-    match Chart::new(kind, size as usize) {
-        Changed::Done(_) => false,
-        Changed::Refused(_) => true,
-    }
 }
 
 fn count_wrong(size: u64, count: u64) -> bool
@@ -73,9 +61,9 @@ fn read_head(s: &[u8]) -> Head
     else {
         return Head::Halted(12);
     };
-    if size_wrong(kind, size) {
+    let Changed::Done(new) = Chart::new(kind, size as usize) else {
         return Head::Halted(1);
-    }
+    };
     let Reading::Number {
         value: set,
         next: fourth,
@@ -92,15 +80,11 @@ fn read_head(s: &[u8]) -> Head
     if count_wrong(size, count) {
         return Head::Halted(5);
     }
-    Head::Names {
-        chart: Chart {
-            kind: kind,
-            size: size as usize,
-            count: count as usize,
-            set: RuleSet { mask: set as u16 },
-        },
-        next: next,
-    }
+    let mut chart = new;
+    let tests = RuleSet { mask: set as u16 };
+    chart.set = tests;
+    chart.count = count as usize;
+    Head::Names { chart, next }
 }
 
 // Reads the chart's values from a place on into the front of a room that holds them, and then the end.

@@ -3,14 +3,15 @@ mod flow;
 mod text;
 
 use charts::Chart;
-use charts::Evaluated;
-use charts::Evaluation;
+use charts::INDIVIDUALS;
+use evaluating::Evaluated;
+use evaluating::Evaluation;
 use flow::Flow;
 ghost use mathlib.Core.Path.{_≡_};
 ghost use Prim.Native.Nat.{_≤_};
 ghost use lib.ListN.{length};
 ghost use Rattle.laws.specs.Front.{atFrontIfRoom, roomFor};
-ghost use Rattle.charts.specs.Series.{pointsIn};
+ghost use Rattle.evaluating.specs.Asked.{asked};
 ghost use Rattle.reports.specs.Text.{rLine};
 ghost use Rattle.reports.specs.Report.{firstIndex, chartReport, textOf, reported};
 ghost use Rattle.reports.specs.Steps.{size, Legal};
@@ -55,21 +56,10 @@ fn refuse(why: u64, out: &mut [u8]) -> Reported
 fn first_index(chart: Chart) -> u64
     ensures { λ r. ⌜ (r ≡ firstIndex chart) × (r ≤ 1) ⌝ }
 {
-    if chart.kind == 1 {
+    if chart.kind == INDIVIDUALS {
         return 1;
     }
     0
-}
-
-// How many points the dispersion series has.
-fn dispersion_points(chart: Chart) -> usize
-    requires { ⌜ 1 ≤ chart .count ⌝ }
-    ensures { λ r. ⌜ r ≡ pointsIn chart 1 ⌝ }
-{
-    if chart.kind == 1 {
-        return chart.count - 1;
-    }
-    chart.count
 }
 
 // Writes the text of an evaluated chart, told the marks of both series.
@@ -92,8 +82,8 @@ fn tell(chart: Chart, e: Evaluation, marks: &[u16], others: &[u16], out: &mut [u
 fn report_chart(chart: Chart, values: &[f64], out: &mut [u8]) -> Reported
     requires legal { ⌜ Legal chart ⌝ }
     requires whole { ⌜ length (now values) ≡ size chart ⌝ }
-    ensures answer { λ r. ⌜ reported r ≡ roomFor (chartReport chart (now (values .entry))) (length (now (out .entry))) ⌝ }
-    ensures room { λ r. ⌜ now (out .exit) ≡ atFrontIfRoom (chartReport chart (now (values .entry))) (now (out .entry)) ⌝ }
+    ensures answer { λ r. ⌜ reported r ≡ roomFor (chartReport (asked chart (now (values .entry)))) (length (now (out .entry))) ⌝ }
+    ensures room { λ r. ⌜ now (out .exit) ≡ atFrontIfRoom (chartReport (asked chart (now (values .entry)))) (now (out .entry)) ⌝ }
 {
     if !floats::all_finite(values) {
         return refuse(3, out);
@@ -102,11 +92,18 @@ fn report_chart(chart: Chart, values: &[f64], out: &mut [u8]) -> Reported
     let mut dispersion = [0.0f64; 2048];
     let mut marks = [0u16; 2048];
     let mut others = [0u16; 2048];
-    match chart.evaluate(values, &mut main, &mut dispersion, &mut marks, &mut others) {
+    match evaluating::evaluate(
+        chart,
+        values,
+        &mut main,
+        &mut dispersion,
+        &mut marks,
+        &mut others,
+    ) {
         Evaluated::Refused(why) => refuse(why.number() as u64, out),
         Evaluated::Done(e) => {
             let points = chart.count;
-            let ranges = dispersion_points(chart);
+            let ranges = points - first_index(chart) as usize;
             tell(chart, e, &marks[0..points], &others[0..ranges], out)
         }
     }

@@ -1,7 +1,7 @@
 // The lines of a report, byte by byte from a place of the room on. Each function either writes its bytes or only goes past
 // them, so that a room too short for a text is known before anything is written.
 use charts::Chart;
-use charts::Evaluation;
+use evaluating::Evaluation;
 use rules::Limits;
 ghost use mathlib.Core.Path.{_≡_};
 ghost use mathlib.Core.List.{_∷_, []};

@@ -9,6 +9,7 @@ use lib.ListN.{length, take, length-replicate}
 use lib.Seq.{length-take-le}
 use Rattle.charts.specs.declared.Chart.{Chart}
 use Rattle.charts.proofs.Held.{own}
+use Rattle.evaluating.specs.Asked.{asked}
 use Rattle.reports.specs.declared.flow.Flow.{Flow}
 use Rattle.reports.specs.Flow.{flow, flowOf}
 use Rattle.reports.specs.Text.{rLine}
@@ -94,8 +95,8 @@ returns-2 c =
     let args = c .before .before .before .before .before .before .before .before .before .before .before .before .before .before .before .args in
     let place = c .before .before .before .before .before .before .before .before in
     let n = size (chart place) in
-    let is : textOf (args .input .now) ≡ chartReport (chart place) (take (n - 0) (values place)) =
-    ap textOn (said place) ∙ ap (λ (k : ℕ). chartReport (chart place) (take k (values place))) (sym (sub-zero n)) in
+    let is : textOf (args .input .now) ≡ chartReport (asked (chart place) (take (n - 0) (values place))) =
+    ap textOn (said place) ∙ ap (λ (k : ℕ). chartReport (asked (chart place) (take k (values place)))) (sym (sub-zero n)) in
     told-as _ _ (args .out .now) (sym is) (c .before .before .report-chart .ensures)
 
 pub report-spec : {M : Type 1} → statement M

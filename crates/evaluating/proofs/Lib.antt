@@ -1,0 +1,8 @@
+-- The laws of evaluating, each file after those that it cites.
+pub mod Answers
+pub mod SeriesPoints
+mod Counting
+mod Measures
+pub mod Outcomes
+mod Figures
+pub mod Examples

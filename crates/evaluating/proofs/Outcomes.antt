@@ -1,0 +1,184 @@
+-- Evaluating: what the tests ahead of the arithmetic tell once they are passed, and each case of the answer. Assumes nothing.
+use mathlib.Core.Path.{_≡_, refl, sym, ap, ap₂, _∙_}
+use mathlib.Core.Bool.{Bool, true, false, not, cond, _&&_, _||_}
+use mathlib.Core.List.{List}
+use Prim.Native.Nat.{ℕ, _+_, _≤_}
+use native.Mathlib.Decide.{ℕ-discrete}
+use native.Mathlib.Omega.{arith}
+use borrow.Author.Tests.{ltb-false, eq-eqb, ne-eqb, not-true}
+use lib.Dec.{ltb, eqb}
+use lib.ListN.{length, drop, replicate}
+use Rattle.laws.specs.Bools.{every}
+use Rattle.laws.specs.Refusals.{firstOf}
+use Rattle.laws.specs.Front.{atFront}
+use Rattle.laws.proofs.Bools.{both}
+use Rattle.laws.proofs.Refusals.{Passed, passed, refused, none-applies, first-append, first-else, first-such, were-passed}
+use Rattle.floats.specs.Finite.{allFinite}
+use Rattle.rules.specs.declared.Limits.{Limits}
+use Rattle.rules.specs.Finite.{finiteLimits}
+use Rattle.rules.specs.Marking.{marksOf, answerOf}
+use Rattle.rules.specs.Terms.{under}
+use Rattle.rules.proofs.Accepted as marking
+use Rattle.charts.specs.declared.Chart.{Chart}
+use Rattle.charts.specs.declared.Refusal.{Refusal}
+use Rattle.charts.specs.Records.{number, recordWrong}
+use Rattle.charts.proofs.Answers.{number-some}
+use Rattle.charts.proofs.Cases.{kind-1, subgroups, or-left, or-right}
+use Rattle.charts.proofs.Held.{held}
+use Rattle.evaluating.specs.declared.checks.Tested.{Tested}
+use Rattle.evaluating.specs.declared.checks.Tested.the-variants as testing
+use Rattle.evaluating.specs.Asked.{Asked}
+use Rattle.evaluating.specs.Series.{pointsIn, seriesOf}
+use Rattle.evaluating.specs.Limits.{limitsOf}
+use Rattle.evaluating.specs.Evaluating.{answerDone, answerRefused, tooFew, noRoom, sound, refusals}
+use Rattle.evaluating.specs.Evaluating.{seriesMarks, numberOf, doneOf, answerFor, evaluateOf, lentAfter}
+use Rattle.evaluating.specs.Steps.{ahead, tested}
+use Rattle.evaluating.proofs.SeriesPoints.{points-most, length-series}
+
+-- ---- what passed tests tell
+
+pub some-held : (c : Chart) → tooFew c ≡ false → 1 ≤ c .count
+unfolding tooFew
+some-held c h = by (ℕ-discrete (c .kind) 1)
+  where
+    by : Dec (c .kind ≡ 1) → 1 ≤ c .count
+    by (yes e) = omega (arith, ltb-false (c .count) 2 (sym (kind-1 (c .kind) (ltb (c .count) 2) (ltb (c .count) 1) (ltb (c .count) 1) e) ∙ h))
+    by (no ne) = ltb-false (c .count) 1 (sym (subgroups (c .kind) (ltb (c .count) 2) (ltb (c .count) 1) ne) ∙ h)
+
+-- the slices hold their series
+pub record Rooms (c : Chart) (main dispersion mainMarks dispersionMarks : ℕ) : Type 0 where
+  pub main-room : pointsIn c 0 ≤ main
+  pub dispersion-room : pointsIn c 1 ≤ dispersion
+  pub main-marks-room : pointsIn c 0 ≤ mainMarks
+  pub dispersion-marks-room : pointsIn c 1 ≤ dispersionMarks
+
+pub rooms : (c : Chart) (a b x y : ℕ) → noRoom c a b x y ≡ false → Rooms c a b x y
+unfolding noRoom
+rooms c a b x y h =
+    let p = ltb a (pointsIn c 0) in
+    let q = ltb x (pointsIn c 0) in
+    let r = ltb b (pointsIn c 1) in
+    let s = ltb y (pointsIn c 1) in
+    let three = or-left (p || q || r) s h in
+    let two = or-left (p || q) r three in
+    record {
+      main-room = ltb-false a (pointsIn c 0) (or-left p q two);
+      main-marks-room = ltb-false x (pointsIn c 0) (or-right p q two);
+      dispersion-room = ltb-false b (pointsIn c 1) (or-right (p || q) r three);
+      dispersion-marks-room = ltb-false y (pointsIn c 1) (or-right (p || q || r) s h);
+    }
+
+module _ (a : Asked) (short : Bool) where
+  pub record Ahead : Type 0 where
+    pub right : recordWrong (a .chart) (length (a .values)) ≡ false
+    pub room : short ≡ false
+
+  pub were-ahead : firstOf (ahead a short) 0 ≡ 0 → Ahead
+  unfolding Passed every
+  were-ahead e = let all = were-passed (ahead a short) refl e in record { right = all .0; room = all .1 .1 .0 }
+
+  -- where they are passed, 7 decides
+  whole : firstOf (refusals a short) 0
+      ≡ cond (eqb (firstOf (ahead a short) 0) 0) (firstOf (drop 4 (refusals a short)) 0) (firstOf (ahead a short) 0)
+  unfolding every
+  whole = first-append (ahead a short) (drop 4 (refusals a short)) 0 ∙ first-else (ahead a short) _ refl
+
+  module _ (e : firstOf (ahead a short) 0 ≡ 0) where
+    by-7 : firstOf (refusals a short) 0 ≡ firstOf (drop 4 (refusals a short)) 0
+    by-7 = whole ∙ ap (λ (b : Bool). cond b (firstOf (drop 4 (refusals a short)) 0) (firstOf (ahead a short) 0)) (eq-eqb _ 0 e)
+
+    pub number-7 : sound a ≡ false → firstOf (refusals a short) 0 ≡ 7
+    number-7 h = by-7 ∙ refused _ _ _ _ (ap not h)
+
+    pub number-0 : sound a ≡ true → firstOf (refusals a short) 0 ≡ 0
+    number-0 h = by-7 ∙ passed _ _ _ _ (ap not h) ∙ none-applies 0
+
+  -- ---- refused ahead of 7
+
+  module _ {why : Refusal} {t : Tested} (is : t ≡ testing.Refused why) (found : tested t ≡ firstOf (ahead a short) 0) where
+    e : firstOf (ahead a short) 0 ≡ number why
+    e = sym found ∙ ap tested is
+
+    pub number-ahead : firstOf (refusals a short) 0 ≡ number why
+    number-ahead =
+        whole
+        ∙ ap (λ (n : ℕ). cond (eqb n 0) (firstOf (drop 4 (refusals a short)) 0) n) e
+        ∙ ap (λ (b : Bool). cond b (firstOf (drop 4 (refusals a short)) 0) (number why)) (ne-eqb (number why) 0 (number-some why))
+
+    pub slice-refused : {A : Type 0} (nought : A) (written old : List A) → old ≡ lentAfter (number why) nought written old
+    unfolding lentAfter every
+    slice-refused nought written old =
+        let at-7 : eqb (number why) 7 ≡ false =
+        ap (λ (n : ℕ). eqb n 7) (sym e) ∙ not-true (eqb (firstOf (ahead a short) 0) 7) (first-such (λ n. not (eqb n 7)) (ahead a short) refl refl) in
+        sym
+        (ap (λ (z : Bool). cond z (atFront written old) (cond (eqb (number why) 7) (replicate (length old) nought) old))
+        (ne-eqb (number why) 0 (number-some why))
+        ∙ ap (λ (z : Bool). cond z (replicate (length old) nought) old) at-7)
+
+  -- ---- the answer, by its number
+
+  pub answer-refused : (n : ℕ) → firstOf (refusals a short) 0 ≡ n → (n ≡ 0 → ⊥) → answerRefused n ≡ evaluateOf a short
+  unfolding evaluateOf answerFor
+  answer-refused n is some =
+      sym
+      (ap (λ (k : ℕ). answerFor k a) is
+      ∙ ap (λ (b : Bool). cond b (doneOf a) (answerRefused n)) (ne-eqb n 0 some))
+
+  pub answer-done : firstOf (refusals a short) 0 ≡ 0 → doneOf a ≡ evaluateOf a short
+  unfolding evaluateOf answerFor
+  answer-done is = sym (ap (λ (k : ℕ). answerFor k a) is)
+
+-- ---- the slices at 7 and at 0
+
+pub slice-7 : {A : Type 0} (nought : A) (written old between : List A) {now : List A} → length between ≡ length old
+    → now ≡ replicate (length between) nought → now ≡ lentAfter 7 nought written old
+unfolding lentAfter
+slice-7 nought written old between k e = e ∙ ap (λ (n : ℕ). replicate n nought) k
+
+pub slice-done : {A : Type 0} (nought : A) (made written old : List A) {now : List A} → now ≡ atFront made old → made ≡ written
+    → now ≡ lentAfter 0 nought written old
+unfolding lentAfter
+slice-done nought made written old e f = e ∙ ap (λ (l : List _). atFront l old) f
+
+-- ---- sound: marking refuses neither series
+
+pub record Sound (a : Asked) (s : ℕ) : Type 0 where
+  pub points : allFinite (seriesOf a s) ≡ true
+  pub limits : finiteLimits (limitsOf a s) ≡ true
+
+pub sound-parts : (a : Asked) → sound a ≡ true → Sound a 0 × Sound a 1
+unfolding sound
+sound-parts a h =
+    let p = allFinite (seriesOf a 0) in
+    let q = allFinite (seriesOf a 1) in
+    let r = finiteLimits (limitsOf a 0) in
+    let s = finiteLimits (limitsOf a 1) in
+    let all = both (p && q) (r && s) h in
+    let points = both p q (all .0) in
+    let limits = both r s (all .1) in
+    (record { points = points .0; limits = limits .0 }, record { points = points .1; limits = limits .1 })
+
+pub marking-done : (a : Asked) (s room : ℕ) → recordWrong (a .chart) (length (a .values)) ≡ false → Sound a s
+    → pointsIn (a .chart) s ≤ room → {l : Limits} → l ≡ limitsOf a s → {points : List _} → points ≡ seriesOf a s
+    → answerOf (under l) (a .chart .set .mask) points room ≡ 0
+marking-done a s room right fine h e f =
+    let own = held (a .chart) (length (a .values)) right .figures in
+    ap₂ (λ (l : Limits) (p : List _). answerOf (under l) (a .chart .set .mask) p room) e f
+    ∙ marking.answer-done (under (limitsOf a s)) (a .chart .set .mask) (seriesOf a s) room
+    (marking.accepts (under (limitsOf a s)) (a .chart .set .mask) (seriesOf a s) (record {
+      few = omega (arith, length-series a s, points-most (a .chart) s, own .few);
+      small = own .set-small;
+      sound = fine .limits;
+      finite = fine .points;
+    }))
+    (omega (arith, length-series a s, h))
+
+-- and its marks are those of the series
+pub marks-are : (a : Asked) (s : ℕ) {l : Limits} → l ≡ limitsOf a s → {points : List _} → points ≡ seriesOf a s
+    → marksOf (under l) (a .chart .set .mask) points ≡ seriesMarks a s
+unfolding seriesMarks
+marks-are a s e f = ap₂ (λ (l : Limits) (p : List _). marksOf (under l) (a .chart .set .mask) p) e f
+
+pub done-by : (a : Asked) {main dispersion : Limits} {marks others : List ℕ} → main ≡ limitsOf a 0 → dispersion ≡ limitsOf a 1
+    → marks ≡ seriesMarks a 0 → others ≡ seriesMarks a 1 → answerDone main dispersion (numberOf marks + numberOf others) ≡ doneOf a
+done-by a l m x y = rw (l, m, x, y) refl

@@ -1,0 +1,89 @@
+-- `checks::check` meets its contract: its tests are those of the definition, in the same order. Assumes nothing.
+use mathlib.Core.Path.{_≡_, sym, ap, _∙_}
+use mathlib.Core.Bool.{true, false}
+use Prim.Native.Nat.{ℕ, _*_}
+use native.Mathlib.Nat.{sub-zero}
+use native.Mathlib.Omega.{arith}
+use lib.ListN.{length, take}
+use Rattle.laws.proofs.Refusals.{passed, refused, none-applies}
+use Rattle.floats.specs.Finite.{allFinite}
+use Rattle.charts.specs.Records.{recordWrong}
+use Rattle.charts.proofs.Cases.{told, told-not}
+use Rattle.charts.proofs.Held.{held}
+use Rattle.evaluating.specs.Asked.{asked, stored}
+use Rattle.evaluating.specs.Evaluating.{tooFew}
+use borrow.Author.Needs.{needs}
+use Rattle.evaluating.proofs.checks.check.Statement.{statement}
+use Rattle.evaluating.proofs.checks.check.Tie as tie
+
+record-wrong-requires : tie.Need-record-wrong-requires
+record-wrong-requires c κs = search needs
+
+returns : tie.Need-returns
+returns c =
+    let args = c .before .before .before .args in
+    let wrong : recordWrong (args .c) (length (args .values .now)) ≡ true = search (needs, told) in
+    sym (refused _ _ _ _ wrong)
+
+-- 14 does not apply
+right : (c : tie.Else1) → recordWrong (c .before .before .before .args .c) (length (c .before .before .before .args .values .now)) ≡ false
+right c = told (c .before .record-wrong .ensures) (c .if1 .left)
+
+-- nor does 8
+enough : (c : tie.Else2) → tooFew (c .before .before .before .before .before .args .c) ≡ false
+enough c = told (c .before .too-few .ensures) (c .if2 .left)
+
+-- the stored values, as the code cuts them out
+cut : (c : tie.After-all-finite) → c .all-finite .result ≡ allFinite (stored (asked (c .before .before .before .before .before .before .before .before .before .args .c) (c .before .before .before .before .before .before .before .before .before .args .values .now)))
+cut c = c .all-finite .ensures ∙ ap (λ (n : ℕ). allFinite (take n (c .before .before .before .before .before .before .before .before .before .args .values .now))) (sub-zero (c .before .before .before .before .before .before .before .before .before .args .c .count * c .before .before .before .before .before .before .before .before .before .args .c .size))
+
+too-few-requires : tie.Need-too-few-requires
+too-few-requires c κs = search needs
+
+returns-2 : tie.Need-returns-2
+returns-2 c = sym (passed _ _ _ _ (right (c .before .before)) ∙ refused _ _ _ _ (told (c .before .too-few .ensures) (c .if2 .taken)))
+
+returns-3 : tie.Need-returns-3
+returns-3 c = sym (passed _ _ _ _ (right (c .before .before .before)) ∙ passed _ _ _ _ (enough (c .before)) ∙ refused _ _ _ _ (c .if3 .taken))
+
+mul-end : tie.Need-mul-end
+mul-end c = omega (arith, held (c .before .before .before .before .before .before .before .args .c) (length (c .before .before .before .before .before .before .before .args .values .now)) (right (c .before .before .before .before)) .figures .all)
+
+sub-all-finite : tie.Need-sub-all-finite
+sub-all-finite c = search needs
+
+part-all-finite-start : tie.Need-part-all-finite-start
+part-all-finite-start c = search needs
+
+part-all-finite-end : tie.Need-part-all-finite-end
+part-all-finite-end c = held (c .before .before .before .before .before .before .before .args .c) (length (c .before .before .before .before .before .before .before .args .values .now)) (right (c .before .before .before .before)) .within
+
+all-finite-requires : tie.Need-all-finite-requires
+all-finite-requires c κs = search needs
+
+returns-4 : tie.Need-returns-4
+returns-4 c =
+    sym (passed _ _ _ _ (right (c .before .before .before .before .before .before .before)) ∙ passed _ _ _ _ (enough (c .before .before .before .before .before)) ∙ passed _ _ _ _ (c .before .before .before .before .if3 .left)
+    ∙ refused _ _ _ _ (told-not (cut (c .before)) (c .if4 .taken)))
+
+returns-5 : tie.Need-returns-5
+returns-5 c =
+    sym (passed _ _ _ _ (right (c .before .before .before .before .before .before .before)) ∙ passed _ _ _ _ (enough (c .before .before .before .before .before)) ∙ passed _ _ _ _ (c .before .before .before .before .if3 .left)
+    ∙ passed _ _ _ _ (told-not (cut (c .before)) (c .if4 .left)) ∙ none-applies _)
+
+pub check-spec : {M : Type 1} → statement M
+check-spec =
+    tie.close
+    (tie.spec
+    record-wrong-requires
+    returns
+    too-few-requires
+    returns-2
+    returns-3
+    mul-end
+    sub-all-finite
+    part-all-finite-start
+    part-all-finite-end
+    all-finite-requires
+    returns-4
+    returns-5)

@@ -1,0 +1,86 @@
+-- `evaluate` meets its contract: refused ahead of the arithmetic, or as `checked::evaluate` says. Assumes nothing.
+use mathlib.Core.Path.{_≡_, sym, ap, _∙_}
+use mathlib.Core.Bool.{Bool}
+use lib.ListN.{length}
+use Rattle.laws.specs.Refusals.{firstOf}
+use Rattle.charts.proofs.Answers.{number-some}
+use Rattle.evaluating.specs.Asked.{Asked, asked}
+use Rattle.evaluating.specs.Evaluating.{noRoom}
+use Rattle.evaluating.specs.Steps.{ahead, tested}
+use Rattle.evaluating.proofs.Outcomes.{number-ahead, answer-refused, slice-refused}
+use borrow.Author.Needs.{needs}
+use Rattle.evaluating.proofs.evaluate.Statement.{statement}
+use Rattle.evaluating.proofs.evaluate.Tie as tie
+
+abbrev question : tie.Start → Asked
+question c = asked (c .args .chart) (c .args .values .now)
+
+abbrev short : tie.Start → Bool
+short c =
+    noRoom (c .args .chart) (length (c .args .main .now)) (length (c .args .dispersion .now))
+    (length (c .args .main-marks .now)) (length (c .args .dispersion-marks .now))
+
+-- what the tests found, by the definition's word for a room too short
+found : (c : tie.After-check) → tested (c .check .result) ≡ firstOf (ahead (question (c .before .before .before .before .before .before .before)) (short (c .before .before .before .before .before .before .before))) 0
+found c = c .check .ensures ∙ ap (λ (b : Bool). firstOf (ahead (question (c .before .before .before .before .before .before .before)) b) 0) (c .before .no-room .ensures)
+
+no-room-requires : tie.Need-no-room-requires
+no-room-requires c κs = search needs
+
+check-requires : tie.Need-check-requires
+check-requires c κs = search needs
+
+enum-known-why : tie.Need-enum-known-why
+enum-known-why c = search needs
+
+enum-told : tie.Need-enum-told
+enum-told c = search needs
+
+evaluate-requires : tie.Need-evaluate-requires
+evaluate-requires c κs = sym (found (c .before .before .before .before .before .before)) ∙ ap tested (c .before .before .before .before .enum-told .given .1)
+
+returns : tie.Need-returns
+returns c =
+    let start = c .before .before .before .before .before .before .before .before .before .before in
+    let is = c .before .why .given .1 in
+    let all = found (c .before .before .before) in (
+      answer-refused (question start) (short start) _ (number-ahead (question start) (short start) is all) (number-some (c .before .why .given .0 .0)),
+      (
+        slice-refused (question start) (short start) is all _ _ _,
+        (
+          slice-refused (question start) (short start) is all _ _ _,
+          (slice-refused (question start) (short start) is all _ _ _, slice-refused (question start) (short start) is all _ _ _),
+        ),
+      ),
+    )
+
+same-length : tie.Need-same-length
+same-length c = c .before .before .before .before .before .before .before .before .evaluate .kept .1 .1 .0
+
+same-length-2 : tie.Need-same-length-2
+same-length-2 c = c .before .before .before .before .before .before .before .before .evaluate .kept .1 .1 .1 .0
+
+same-length-3 : tie.Need-same-length-3
+same-length-3 c = c .before .before .before .before .before .before .before .before .evaluate .kept .1 .1 .1 .1 .0
+
+same-length-4 : tie.Need-same-length-4
+same-length-4 c = c .before .before .before .before .before .before .before .before .evaluate .kept .1 .1 .1 .1 .1 .0
+
+returns-2 : tie.Need-returns-2
+returns-2 c = c .before .before .before .before .before .before .before .before .evaluate .ensures
+
+pub evaluate-spec : {M : Type 1} → statement M
+evaluate-spec =
+    tie.close
+    (tie.spec
+    no-room-requires
+    check-requires
+    enum-known-why
+    enum-told
+    evaluate-requires
+    returns
+    same-length
+    same-length-2
+    same-length-3
+    same-length-4
+    returns-2)
