@@ -13,6 +13,7 @@ use lib.ListN.{length, take, drop}
 use lib.Seq.{take-take, take-all, length-take-le, take-append-le, getD-take, getD-drop}
 use Rattle.sets.specs.declared.Test.{Test}
 use Rattle.sets.specs.Sets.{has, setOf}
+use Rattle.stops.specs.Cuts.{unbroken}
 use Rattle.rules.specs.declared.Lines.{Lines}
 use Rattle.rules.specs.Tests.{window, shows}
 use Rattle.rules.specs.Marking.{newestFirst, stands, marksAt}
@@ -36,39 +37,39 @@ near l t past = by (leb 15 (length past)) refl
         ap (λ (w : List Float). stands l w t) (take-all 15 past few)
 
 -- Where two series agree on the fifteen values that end at a position of each, or on all if they are fewer, their marks agree there.
-pub marks-near : (l : Lines) (set : ℕ) (xs ys : List Float) (i j : ℕ) → take 15 (newestFirst xs (suc i)) ≡ take 15 (newestFirst ys (suc j))
-    → marksAt l set xs i ≡ marksAt l set ys j
+pub marks-near : (l : Lines) (set : ℕ) (xs ys : List Float) (i j : ℕ) → take 15 (newestFirst unbroken xs (suc i)) ≡ take 15 (newestFirst unbroken ys (suc j))
+    → marksAt unbroken l set xs i ≡ marksAt unbroken l set ys j
 unfolding marksAt
 marks-near l set xs ys i j same =
     ap setOf (fun-ext (λ t. ap (λ (b : Bool). has set t && b)
-    (sym (near l t (newestFirst xs (suc i))) ∙ ap (λ (w : List Float). stands l w t) same ∙ near l t (newestFirst ys (suc j)))))
+    (sym (near l t (newestFirst unbroken xs (suc i))) ∙ ap (λ (w : List Float). stands l w t) same ∙ near l t (newestFirst unbroken ys (suc j)))))
 
 -- a part of a series has the series' values, and what came before them behind
-newest-part : (values : List Float) (s m k : ℕ) → k ≤ m → newestFirst values (s + k) ≡ newestFirst (take m (drop s values)) k ++ newestFirst values s
+newest-part : (values : List Float) (s m k : ℕ) → k ≤ m → newestFirst unbroken values (s + k) ≡ newestFirst unbroken (take m (drop s values)) k ++ newestFirst unbroken values s
 unfolding newestFirst
-newest-part values s m zero h = ap (newestFirst values) (add-zero s)
+newest-part values s m zero h = ap (newestFirst unbroken values) (add-zero s)
 newest-part values s m (suc k) h =
-    ap (newestFirst values) (add-suc s k)
+    ap (newestFirst unbroken values) (add-suc s k)
     ∙ ap₂ _∷_ (sym (getD-take m (drop s values) k nan h ∙ getD-drop s values k nan)) (newest-part values s m k (omega arith))
 
 -- the marks of a part, where fourteen values of it come before the position, or the part begins with the series
 pub marks-part : (l : Lines) (set : ℕ) (values : List Float) (s m i : ℕ) → i < m → (i < 14 → s ≡ 0)
-    → marksAt l set (take m (drop s values)) i ≡ marksAt l set values (s + i)
+    → marksAt unbroken l set (take m (drop s values)) i ≡ marksAt unbroken l set values (s + i)
 marks-part l set values s m i h first = marks-near l set (take m (drop s values)) values i (s + i) (by (ltb i 14) refl)
   where
     part : List Float
-    part = newestFirst (take m (drop s values)) (suc i)
+    part = newestFirst unbroken (take m (drop s values)) (suc i)
 
-    all : newestFirst values (suc (s + i)) ≡ part ++ newestFirst values s
-    all = ap (newestFirst values) (sym (add-suc s i)) ∙ newest-part values s m (suc i) h
+    all : newestFirst unbroken values (suc (s + i)) ≡ part ++ newestFirst unbroken values s
+    all = ap (newestFirst unbroken values) (sym (add-suc s i)) ∙ newest-part values s m (suc i) h
 
-    by : (b : Bool) → ltb i 14 ≡ b → take 15 part ≡ take 15 (newestFirst values (suc (s + i)))
+    by : (b : Bool) → ltb i 14 ≡ b → take 15 part ≡ take 15 (newestFirst unbroken values (suc (s + i)))
     by true e =
-        let none : newestFirst values s ≡ [] = ap (newestFirst values) (first (ltb-true i 14 e)) ∙ (unfold newestFirst in refl) in
+        let none : newestFirst unbroken values s ≡ [] = ap (newestFirst unbroken values) (first (ltb-true i 14 e)) ∙ (unfold newestFirst in refl) in
         ap (take 15) (sym (all ∙ ap (λ (w : List Float). part ++ w) none ∙ append-nil part))
     by false e =
         let long : 15 ≤ length part = omega (arith, length-newest (take m (drop s values)) (suc i), ltb-false i 14 e) in
-        sym (ap (take 15) all ∙ take-append-le 15 part (newestFirst values s) long)
+        sym (ap (take 15) all ∙ take-append-le 15 part (newestFirst unbroken values s) long)
 
 -- a block goes back over fourteen values, or to the first
 pub goes-back : (at p : ℕ) → ((i : ℕ) → i < at → i < 14 → i < p) → p < 14 → at - p ≡ 0

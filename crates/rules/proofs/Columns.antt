@@ -90,7 +90,7 @@ pub window-most : (t : Test) → window t ≤ 15
 unfolding tests window
 window-most t = leb-true (window t) 15 (agree (λ (u : Test). leb (window u) 15) (λ (u : Test). true) true refl t)
 
-fits-window : (n : ℕ) (t : Test) → has (fitting n) t ≡ leb (window t) n
+pub fits-window : (n : ℕ) (t : Test) → has (fitting n) t ≡ leb (window t) n
 unfolding fitting
 fits-window n t = has-setOf (λ u. leb (window u) n) t
 

@@ -8,6 +8,7 @@ mod Signs
 mod Marks
 pub mod Blocks
 mod Single
+pub mod Stopped
 pub mod ZoneLines
 pub mod Meaning
 pub mod Accepted

@@ -19,6 +19,7 @@ use Rattle.laws.proofs.Lists.{length-tabulate, getD-tabulate, same-tabulate, ta
 use Rattle.laws.proofs.Filling.{Tabling, tabling-goes-on}
 use Rattle.laws.proofs.Lending.{regained}
 use Rattle.sets.specs.Sets.{bitOf, tests, setOf}
+use Rattle.stops.specs.Cuts.{unbroken}
 use Rattle.rules.specs.declared.Lines.{Lines}
 use Rattle.rules.specs.Tests.{window}
 use Rattle.rules.specs.Marking.{newestFirst, marksAt}
@@ -46,7 +47,7 @@ length-last cs i (suc (suc n)) = ap suc (length-last cs i (suc n))
 
 -- ---- the first fourteen positions
 
-fits-are : (i : ℕ) → i < 14 → fitsAt i ≡ fitting (suc i)
+pub fits-are : (i : ℕ) → i < 14 → fitsAt i ≡ fitting (suc i)
 unfolding fitsAt fitting setOf tests fromBits window tabulateFrom
 fits-are i h = getD-tabulate (λ j. fitting (suc j)) 14 i 0 h
 
@@ -101,16 +102,16 @@ module _ (set : ℕ) (l : Lines) (values : List Float) (p : ℕ) (cs : List ℕ)
         let e : i + (15 - 1 - k) ≡ 14 - p + (p + i - k) = omega arith in
         last-at cs i 15 k h ∙ ap (λ (j : ℕ). getD cs j 0) e ∙ there (p + i - k) (omega arith)
 
-    read-far : 14 ≤ p + i → marksRead set cs i ≡ marksAt l set values (p + i)
+    read-far : 14 ≤ p + i → marksRead set cs i ≡ marksAt unbroken l set values (p + i)
     unfolding marksRead marksAt readCodes
     read-far far =
-        reads-far l (newestFirst values (suc (p + i))) (λ t. column (bitOf t) ws) (λ t. column (downBit t) ws) set
+        reads-far l (newestFirst unbroken values (suc (p + i))) (λ t. column (bitOf t) ws) (λ t. column (downBit t) ws) set
         (codes-show set l values (p + i) ws (length-last cs i 15) are) (omega (arith, length-newest values (suc (p + i))))
 
-    read-near : bitAnd (marksRead set cs i) (fitting (suc (p + i))) ≡ marksAt l set values (p + i)
+    read-near : bitAnd (marksRead set cs i) (fitting (suc (p + i))) ≡ marksAt unbroken l set values (p + i)
     unfolding marksRead marksAt readCodes
     read-near =
-        reads-marks l (newestFirst values (suc (p + i))) (λ t. column (bitOf t) ws) (λ t. column (downBit t) ws) set
+        reads-marks l (newestFirst unbroken values (suc (p + i))) (λ t. column (bitOf t) ws) (λ t. column (downBit t) ws) set
         (codes-show set l values (p + i) ws (length-last cs i 15) are) (suc (p + i)) (sym (length-newest values (suc (p + i))))
 
   -- what was read, less what does not fit among the first k
@@ -118,11 +119,11 @@ module _ (set : ℕ) (l : Lines) (values : List Float) (p : ℕ) (cs : List ℕ)
       → ((i : ℕ) → i < 14 - p → i < n → i < k)
       → read ≡ atFront (tabulate (marksRead set cs) n) old
       → fitted ≡ atFront (tabulate (λ i. bitAnd (getD read i 0) (fitsAt (p + i))) k) read
-      → fitted ≡ atFront (tabulate (λ i. marksAt l set values (p + i)) n) old
+      → fitted ≡ atFront (tabulate (λ i. marksAt unbroken l set values (p + i)) n) old
   block-marks k n old read fitted many few small all was is =
       is
       ∙ ap (atFront (tabulate (λ i. bitAnd (getD read i 0) (fitsAt (p + i))) k)) was
-      ∙ patched (λ i. bitAnd (getD read i 0) (fitsAt (p + i))) (marksRead set cs) (λ i. marksAt l set values (p + i)) k n old few
+      ∙ patched (λ i. bitAnd (getD read i 0) (fitsAt (p + i))) (marksRead set cs) (λ i. marksAt unbroken l set values (p + i)) k n old few
       (λ i h. ap₂ bitAnd (here i h) (fits-are (p + i) (omega arith)) ∙ read-near i (omega arith))
       (λ i h q. read-far i (omega arith) (late i h q))
     where

@@ -17,6 +17,7 @@ use Rattle.sets.specs.declared.Test.{Test}
 use Rattle.sets.specs.declared.Test.the-variants.{BeyondLimits, NineOneSide, SixTrend, FourteenAlternating, TwoOfThreeBeyond2Sigma, FourOfFiveBeyond1Sigma, FifteenWithin1Sigma, EightBeyond1Sigma, EightOneSide}
 use Rattle.sets.specs.Sets.{tests, bitOf, has}
 use Rattle.sets.proofs.Sets.{agree}
+use Rattle.stops.specs.Cuts.{unbroken}
 use Rattle.rules.specs.declared.Lines.{Lines}
 use Rattle.rules.specs.Tests.{over, under, rise, fall, steps}
 use Rattle.rules.specs.Marking.{newestFirst}
@@ -171,7 +172,7 @@ asks-has set t e = by (eqb (bitAnd set (familyOf t)) 0) refl
 
 -- ---- the values before a position
 
-newest-at : (values : List Float) (p k : ℕ) → k ≤ p → getD (newestFirst values (suc p)) k nan ≡ getD values (p - k) nan
+newest-at : (values : List Float) (p k : ℕ) → k ≤ p → getD (newestFirst unbroken values (suc p)) k nan ≡ getD values (p - k) nan
 unfolding newestFirst
 newest-at values p zero h = let e : p ≡ p - 0 = omega arith in ap (λ (j : ℕ). getD values j nan) e
 newest-at values zero (suc k) h = absurd (omega arith)
@@ -180,7 +181,7 @@ newest-at values (suc p) (suc k) h =
     newest-at values p k (le-of-suc-le-suc h) ∙ ap (λ (j : ℕ). getD values j nan) e
 
 -- and what comes before each of them, d before the first
-prior-at : (values : List Float) (d : Float) (p k : ℕ) → k ≤ p → getD (newestFirst values (suc p)) (suc k) d ≡ getD (d ∷ values) (p - k) nan
+prior-at : (values : List Float) (d : Float) (p k : ℕ) → k ≤ p → getD (newestFirst unbroken values (suc p)) (suc k) d ≡ getD (d ∷ values) (p - k) nan
 unfolding newestFirst
 prior-at values d zero zero h = refl
 prior-at values d zero (suc k) h = absurd (omega arith)
@@ -189,7 +190,7 @@ prior-at values d (suc p) (suc k) h =
     let e : p - k ≡ suc p - suc k = omega arith in
     prior-at values d p k (le-of-suc-le-suc h) ∙ ap (λ (j : ℕ). getD (d ∷ values) j nan) e
 
-pub length-newest : (values : List Float) (n : ℕ) → length (newestFirst values n) ≡ n
+pub length-newest : (values : List Float) (n : ℕ) → length (newestFirst unbroken values n) ≡ n
 unfolding newestFirst
 length-newest values zero = refl
 length-newest values (suc n) = ap suc (length-newest values n)
@@ -200,7 +201,7 @@ length-newest values (suc n) = ap suc (length-newest values n)
 module _ (set : ℕ) (l : Lines) (values : List Float) (p : ℕ) (ws : List ℕ) (fifteen : length ws ≡ 15)
     (are : (k : ℕ) → k < 15 → k ≤ p → getD ws k 0 ≡ codeAt set l (getD values 0 nan) values (p - k)) where
   abbrev past : List Float
-  past = newestFirst values (suc p)
+  past = newestFirst unbroken values (suc p)
 
   shown : (s : Signal) (b : ℕ) → ((u v : Float) → hasBit (codeOf (asks set) l u v) b ≡ sign l s u v) → Column l past s (column b ws)
   shown s b says = begins-by (signs l s past) (column b ws) (omega (arith, length-map ws (λ c. hasBit c b))) (λ k h q.

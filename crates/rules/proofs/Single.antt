@@ -16,6 +16,7 @@ use Rattle.sets.specs.declared.Test.{Test}
 use Rattle.sets.specs.declared.Test.the-variants.{BeyondLimits}
 use Rattle.sets.specs.Sets.{tests, setOf}
 use Rattle.sets.proofs.Sets.{and-setOf}
+use Rattle.stops.specs.Cuts.{unbroken}
 use Rattle.rules.specs.declared.Lines.{Lines}
 use Rattle.rules.specs.Tests.{over, under, window, shows}
 use Rattle.rules.specs.Marking.{newestFirst, stands, marksAt}
@@ -30,14 +31,14 @@ and-first set p h =
 
 -- the first test stands where the value lies beyond the limits
 first-stands : (l : Lines) (values : List Float) (i : ℕ)
-    → stands l (newestFirst values (suc i)) BeyondLimits ≡ (over (l .ucl) (getD values i nan) || under (l .lcl) (getD values i nan))
+    → stands l (newestFirst unbroken values (suc i)) BeyondLimits ≡ (over (l .ucl) (getD values i nan) || under (l .lcl) (getD values i nan))
 unfolding stands window shows newestFirst every
 first-stands l values i = rw (leb·suc-suc, leb·zero) (and-true (over (l .ucl) (getD values i nan) || under (l .lcl) (getD values i nan)))
 
 pub marks-single : (l : Lines) (set : ℕ) (values : List Float) (i : ℕ) → set < 2
-    → bitAnd set (one (over (l .ucl) (getD values i nan) || under (l .lcl) (getD values i nan))) ≡ marksAt l set values i
+    → bitAnd set (one (over (l .ucl) (getD values i nan) || under (l .lcl) (getD values i nan))) ≡ marksAt unbroken l set values i
 unfolding marksAt
 marks-single l set values i h =
     ap (λ (b : Bool). bitAnd set (one b)) (sym (first-stands l values i))
-    ∙ sym (and-first set (stands l (newestFirst values (suc i))) h)
-    ∙ and-setOf set (stands l (newestFirst values (suc i)))
+    ∙ sym (and-first set (stands l (newestFirst unbroken values (suc i))) h)
+    ∙ and-setOf set (stands l (newestFirst unbroken values (suc i)))

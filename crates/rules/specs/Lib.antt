@@ -6,3 +6,4 @@ pub mod Terms
 pub mod Marking
 pub mod Columns
 pub mod Codes
+pub mod Cuts

@@ -1,8 +1,14 @@
--- What a series is asked under: its limits (01, 'The nine tests'). Definitions only.
+-- What a series is asked under: its limits (01, 'The nine tests'), the stops of its main series, and whether it is itself that of the
+-- moving ranges (02, R-1). Definitions only.
+use mathlib.Core.Bool.{Bool}
+use mathlib.Core.List.{List}
+use Prim.Native.Nat.{ℕ}
 use Rattle.rules.specs.declared.Limits.{Limits}
 
 pub record Terms : Type 0 where
   pub limits : Limits
+  pub stops : List ℕ
+  pub moving : Bool
 
-abbrev pub under : Limits → Terms
-under l = record { limits = l }
+abbrev pub under : Limits → List ℕ → Bool → Terms
+under l stops moving = record { limits = l; stops = stops; moving = moving }

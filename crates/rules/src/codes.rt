@@ -19,6 +19,7 @@ ghost use lib.ListN.{length, getD};
 ghost use Rattle.laws.specs.Bits.{fromBits};
 ghost use Rattle.laws.specs.Lists.{tabulate};
 ghost use Rattle.laws.specs.Front.{atFront};
+ghost use Rattle.stops.specs.Cuts.{unbroken};
 ghost use Rattle.rules.specs.Marking.{marksAt, marksBy};
 ghost use Rattle.rules.specs.Codes.{picked, zoneCode, insideCode, stepCode, zoneAt, insideAt, stepAt, Coded, Added, Clear, CodesOf, packedBits, readCodes, lastOf, marksRead, fitsAt};
 
@@ -262,7 +263,7 @@ fn codes(set: u16, l: Lines, values: &[f64], c: &mut [u16])
 }
 
 // The smaller of two.
-fn least(a: usize, b: usize) -> usize
+pub fn least(a: usize, b: usize) -> usize
     ensures { λ r. ⌜ (r ≤ a) × (r ≤ b) × ((i : ℕ) → i < a → i < b → i < r) ⌝ }
 {
     if a < b {
@@ -434,7 +435,7 @@ const FITS: [u16; 14] = [
 ];
 
 // Takes from k marks, the first of which is at position `from`, the tests whose window does not fit.
-fn fit(from: usize, k: usize, out: &mut [u16])
+pub fn fit(from: usize, k: usize, out: &mut [u16])
     requires { ⌜ (from + k ≤ 14) × (k ≤ length (now out)) ⌝ }
     ensures { λ _. ⌜ now (out .exit) ≡ atFront (tabulate (λ i. bitAnd (getD (now (out .entry)) i 0) (fitsAt (from + i))) k) (now (out .entry)) ⌝ }
 {
@@ -449,7 +450,7 @@ fn fit(from: usize, k: usize, out: &mut [u16])
 // The marks of a block, before which come the first p of the values, at most fourteen; `c` is room for codes, which is clear.
 fn block(l: Lines, set: u16, values: &[f64], p: usize, c: &mut [u16], out: &mut [u16])
     requires { ⌜ (p ≤ 14) × (p ≤ length (now values)) × (length (now values) + 14 ≤ length (now c) + p) × (length (now values) ≤ length (now out) + p) × (30 ≤ length (now c)) × Clear (now c) ⌝ }
-    ensures { λ _. ⌜ now (out .exit) ≡ atFront (tabulate (λ i. marksAt l set (now (values .entry)) (p + i)) (length (now (values .entry)) - p)) (now (out .entry)) ⌝ }
+    ensures { λ _. ⌜ now (out .exit) ≡ atFront (tabulate (λ i. marksAt unbroken l set (now (values .entry)) (p + i)) (length (now (values .entry)) - p)) (now (out .entry)) ⌝ }
 {
     let free = 14 - p;
     let m = values.len() - p;
@@ -461,7 +462,7 @@ fn block(l: Lines, set: u16, values: &[f64], p: usize, c: &mut [u16], out: &mut 
 // The marks of every position of few values: one block, so that little room has to be cleared.
 fn mark_few(l: Lines, set: u16, values: &[f64], out: &mut [u16])
     requires { ⌜ (length (now values) ≤ 50) × (length (now values) ≤ length (now out)) ⌝ }
-    ensures { λ _. ⌜ now (out .exit) ≡ atFront (marksBy l set (now (values .entry))) (now (out .entry)) ⌝ }
+    ensures { λ _. ⌜ now (out .exit) ≡ atFront (marksBy unbroken l set (now (values .entry))) (now (out .entry)) ⌝ }
 {
     let mut c = [0u16; 64];
     block(l, set, values, 0, &mut c[0..64], out);
@@ -470,7 +471,7 @@ fn mark_few(l: Lines, set: u16, values: &[f64], out: &mut [u16])
 // The same for many, block by block: a block and its codes stay in the nearest cache.
 fn mark_many(l: Lines, set: u16, values: &[f64], out: &mut [u16])
     requires { ⌜ length (now values) ≤ length (now out) ⌝ }
-    ensures { λ _. ⌜ now (out .exit) ≡ atFront (marksBy l set (now (values .entry))) (now (out .entry)) ⌝ }
+    ensures { λ _. ⌜ now (out .exit) ≡ atFront (marksBy unbroken l set (now (values .entry))) (now (out .entry)) ⌝ }
 {
     let n = values.len();
     let mut at = 0;
@@ -494,7 +495,7 @@ fn mark_many(l: Lines, set: u16, values: &[f64], out: &mut [u16])
 // The same for a set that has no test but the first, whose windows are single values: no codes are needed.
 fn mark_beyond(l: Lines, set: u16, values: &[f64], out: &mut [u16])
     requires { ⌜ (set < 2) × (length (now values) ≤ length (now out)) ⌝ }
-    ensures { λ _. ⌜ now (out .exit) ≡ atFront (marksBy l set (now (values .entry))) (now (out .entry)) ⌝ }
+    ensures { λ _. ⌜ now (out .exit) ≡ atFront (marksBy unbroken l set (now (values .entry))) (now (out .entry)) ⌝ }
 {
     let mut i = 0;
     while i < values.len() {
@@ -507,7 +508,7 @@ fn mark_beyond(l: Lines, set: u16, values: &[f64], out: &mut [u16])
 // The marks of every position at the front of `out`.
 pub fn fill(l: Lines, set: u16, values: &[f64], out: &mut [u16])
     requires { ⌜ length (now values) ≤ length (now out) ⌝ }
-    ensures { λ _. ⌜ now (out .exit) ≡ atFront (marksBy l set (now (values .entry))) (now (out .entry)) ⌝ }
+    ensures { λ _. ⌜ now (out .exit) ≡ atFront (marksBy unbroken l set (now (values .entry))) (now (out .entry)) ⌝ }
 {
     if set < 2 {
         mark_beyond(l, set, values, out);

@@ -1,5 +1,6 @@
 // The nine tests on a series: what a mark means, and marking.
 mod codes;
+mod cuts;
 
 use sets::RuleSet;
 use sets::Test;
@@ -56,6 +57,8 @@ pub fn window(t: Test) -> usize
 pub enum Refusal {
     /// There are more than 4,096 values (5).
     TooMany,
+    /// The stops are none of the series (15): see [`stops::wrong`].
+    Stops,
     /// The set's mask is over 511 (4).
     SetTooLarge,
     /// A limit or a value is not finite (3).
@@ -79,6 +82,7 @@ impl Refusal {
     {
         match self {
             Refusal::TooMany => 5,
+            Refusal::Stops => 15,
             Refusal::SetTooLarge => 4,
             Refusal::NotFinite => 3,
             Refusal::TooShort => 6,
@@ -138,11 +142,14 @@ fn lines_of(l: Limits) -> Lines
 }
 
 // What is refused before there is a room to look at: the first refusal that applies, or `Done`.
-fn ahead(values: &[f64], limits: Limits, set: RuleSet) -> Marked
-    ensures { λ r. ⌜ numbered r ≡ refusal (under limits) (set .mask) (now (values .entry)) ⌝ }
+fn ahead(values: &[f64], stops: &[usize], moving: bool, limits: Limits, set: RuleSet) -> Marked
+    ensures { λ r. ⌜ numbered r ≡ refusal (under limits (now (stops .entry)) moving) (set .mask) (now (values .entry)) ⌝ }
 {
     if MOST < values.len() {
         return Marked::Refused(Refusal::TooMany);
+    }
+    if stops::wrong(stops, moving, values.len()) {
+        return Marked::Refused(Refusal::Stops);
     }
     if RuleSet::ALL < set.mask {
         return Marked::Refused(Refusal::SetTooLarge);
@@ -159,13 +166,18 @@ fn ahead(values: &[f64], limits: Limits, set: RuleSet) -> Marked
 /// Marks every position of a series: test b of the set is set in bit b of `marks[i]` exactly where the window of the
 /// test that ends at position i fits and shows the test's pattern.
 ///
+/// `stops` are the positions before which the belt stood still, of the main series where the values are its moving ranges
+/// (`moving`); a window that reaches over one does not show its pattern, and only windows of length one hold a moving range
+/// that straddles one.
+///
 /// Gives `Done` and fills the front of `marks`, one entry for each value; entries past them are untouched. Infinite
 /// zone widths and limits that lie the wrong way round are taken as they are.
 ///
 /// # Refusals
 ///
-/// In this order, with `marks` as it came: more than 4,096 values (5), a set over 511 (4), limits that are not all finite
-/// (3), values that are not all finite (3), a slice shorter than the series (6).
+/// In this order, with `marks` as it came: more than 4,096 values (5), stops that are none of the series (15, see
+/// [`stops::wrong`]), a set over 511 (4), limits that are not all finite (3), values that are not all finite (3), a slice
+/// shorter than the series (6).
 ///
 /// # Example
 ///
@@ -175,19 +187,29 @@ fn ahead(values: &[f64], limits: Limits, set: RuleSet) -> Marked
 /// ```
 /// let limits = Limits { ucl: 28.0, cl: 25.0, lcl: 22.0 };
 /// let mut marks = [0u16; 9];
-/// rules::mark(&[26.5; 9], limits, RuleSet::nelson(), &mut marks);   // 0, 0, 0, 0, 32, 32, 32, 160, 162
+/// rules::mark(&[26.5; 9], &[], false, limits, RuleSet::nelson(), &mut marks);   // 0, 0, 0, 0, 32, 32, 32, 160, 162
+/// rules::mark(&[26.5; 9], &[3], false, limits, RuleSet::nelson(), &mut marks);  // 0, 0, 0, 0, 0, 0, 0, 32, 32
 /// ```
-pub fn mark(values: &[f64], limits: Limits, set: RuleSet, marks: &mut [u16]) -> Marked
-    ensures answer { λ r. ⌜ numbered r ≡ answerOf (under limits) (set .mask) (now (values .entry)) (length (now (marks .entry))) ⌝ }
-    ensures marks { λ r. ⌜ now (marks .exit) ≡ marksAfter (under limits) (set .mask) (now (values .entry)) (now (marks .entry)) ⌝ }
+pub fn mark(
+    values: &[f64],
+    stops: &[usize],
+    moving: bool,
+    limits: Limits,
+    set: RuleSet,
+    marks: &mut [u16],
+) -> Marked
+    ensures answer { λ r. ⌜ numbered r ≡ answerOf (under limits (now (stops .entry)) moving) (set .mask) (now (values .entry)) (length (now (marks .entry))) ⌝ }
+    ensures marks { λ r. ⌜ now (marks .exit) ≡ marksAfter (under limits (now (stops .entry)) moving) (set .mask) (now (values .entry)) (now (marks .entry)) ⌝ }
 {
-    let refused = ahead(values, limits, set);
+    let refused = ahead(values, stops, moving, limits, set);
     if refused.number() != 0 {
         return refused;
     }
     if marks.len() < values.len() {
         return Marked::Refused(Refusal::TooShort);
     }
+    let n = values.len();
     codes::fill(lines_of(limits), set.mask, values, marks);
+    cuts::part(stops, moving, &mut marks[0..n]);
     Marked::Done
 }

@@ -1,14 +1,20 @@
 -- `rules::ahead` meets its contract: its tests are those of the definition, in the same order. Assumes nothing.
 use mathlib.Core.Path.{_≡_, refl, sym, _∙_}
 use mathlib.Core.Bool.{true, false}
+use lib.ListN.{length}
 use borrow.Author.Tests.{lt-ltb, le-ltb, not-true, not-false}
 use Rattle.laws.specs.Refusals.{firstOf}
 use Rattle.floats.specs.Finite.{allFinite}
 use Rattle.rules.specs.Finite.{finiteLimits}
+use Rattle.stops.specs.Stops.{stopsWrong, mainPoints}
 use Rattle.rules.specs.Marking.{ahead}
 use borrow.Author.Needs.{needs}
 use Rattle.rules.proofs.ahead.Statement.{statement}
 use Rattle.rules.proofs.ahead.Tie as tie
+
+-- the stops are some of the series
+stopped : (c : tie.Else2) → (let a = c .before .before .before .before .before .args in stopsWrong (mainPoints (a .moving) (length (a .values .now))) (a .stops .now) ≡ false)
+stopped c = sym (c .before .wrong .ensures) ∙ c .if2 .left
 
 returns : tie.Need-returns
 unfolding ahead firstOf
@@ -16,38 +22,62 @@ returns c = rw (lt-ltb _ _ (c .if1 .taken)) refl
 
 returns-2 : tie.Need-returns-2
 unfolding ahead firstOf
-returns-2 c = simp (le-ltb _ _ (c .before .before .if1 .left), lt-ltb _ _ (c .if2 .taken))
+returns-2 c =
+    let many = c .before .before in
+    let args = many .before .before .before .args in
+    let stops : stopsWrong (mainPoints (args .moving) (length (args .values .now))) (args .stops .now) ≡ true = sym (c .before .wrong .ensures) ∙ c .if2 .taken in
+    simp (le-ltb _ _ (many .if1 .left), stops)
 
 returns-3 : tie.Need-returns-3
 unfolding ahead firstOf
 returns-3 c =
-    let set = c .before .before in
-    let many = set .before .before in
-    let args = many .before .before .args in
-    let limits : finiteLimits (args .limits) ≡ false = sym (c .before .finite-limits .ensures) ∙ not-true _ (c .if3 .taken) in
-    simp (le-ltb _ _ (many .if1 .left), le-ltb _ _ (set .if2 .left), limits)
+    let stops = c .before .before in
+    simp (le-ltb _ _ (stops .before .before .if1 .left), stopped stops, lt-ltb _ _ (c .if3 .taken))
 
 returns-4 : tie.Need-returns-4
 unfolding ahead firstOf
 returns-4 c =
-    let finite = c .before .before in
-    let set = finite .before .before in
-    let many = set .before .before in
-    let args = many .before .before .args in
-    let limits : finiteLimits (args .limits) ≡ true = sym (finite .before .finite-limits .ensures) ∙ not-false _ (finite .if3 .left) in
-    let values : allFinite (args .values .now) ≡ false = sym (c .before .all-finite .ensures) ∙ not-true _ (c .if4 .taken) in
-    simp (le-ltb _ _ (many .if1 .left), le-ltb _ _ (set .if2 .left), limits, values)
+    let set = c .before .before in
+    let stops = set .before .before in
+    let many = stops .before .before in
+    let args = many .before .before .before .args in
+    let limits : finiteLimits (args .limits) ≡ false = sym (c .before .finite-limits .ensures) ∙ not-true _ (c .if4 .taken) in
+    simp (le-ltb _ _ (many .if1 .left), stopped stops, le-ltb _ _ (set .if3 .left), limits)
 
 returns-5 : tie.Need-returns-5
 unfolding ahead firstOf
 returns-5 c =
     let finite = c .before .before in
     let set = finite .before .before in
-    let many = set .before .before in
-    let args = many .before .before .args in
-    let limits : finiteLimits (args .limits) ≡ true = sym (finite .before .finite-limits .ensures) ∙ not-false _ (finite .if3 .left) in
-    let values : allFinite (args .values .now) ≡ true = sym (c .before .all-finite .ensures) ∙ not-false _ (c .if4 .left) in
-    simp (le-ltb _ _ (many .if1 .left), le-ltb _ _ (set .if2 .left), limits, values)
+    let stops = set .before .before in
+    let many = stops .before .before in
+    let args = many .before .before .before .args in
+    let limits : finiteLimits (args .limits) ≡ true = sym (finite .before .finite-limits .ensures) ∙ not-false _ (finite .if4 .left) in
+    let values : allFinite (args .values .now) ≡ false = sym (c .before .all-finite .ensures) ∙ not-true _ (c .if5 .taken) in
+    simp (le-ltb _ _ (many .if1 .left), stopped stops, le-ltb _ _ (set .if3 .left), limits, values)
+
+returns-6 : tie.Need-returns-6
+unfolding ahead firstOf
+returns-6 c =
+    let finite = c .before .before in
+    let set = finite .before .before in
+    let stops = set .before .before in
+    let many = stops .before .before in
+    let args = many .before .before .before .args in
+    let limits : finiteLimits (args .limits) ≡ true = sym (finite .before .finite-limits .ensures) ∙ not-false _ (finite .if4 .left) in
+    let values : allFinite (args .values .now) ≡ true = sym (c .before .all-finite .ensures) ∙ not-false _ (c .if5 .left) in
+    simp (le-ltb _ _ (many .if1 .left), stopped stops, le-ltb _ _ (set .if3 .left), limits, values)
 
 pub ahead-spec : {M : Type 1} → statement M
-ahead-spec = tie.close (tie.spec returns returns-2 (λ c κs. search needs) returns-3 (λ c κs. search needs) returns-4 returns-5)
+ahead-spec =
+    tie.close
+    (tie.spec
+    returns
+    (λ c κs. search needs)
+    returns-2
+    returns-3
+    (λ c κs. search needs)
+    returns-4
+    (λ c κs. search needs)
+    returns-5
+    returns-6)

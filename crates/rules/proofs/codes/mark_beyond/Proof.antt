@@ -4,13 +4,14 @@ use native.Mathlib.Omega.{arith}
 use borrow.Author.Needs.{needs}
 use lib.ListN.{length}
 use Rattle.laws.proofs.Filling.{Tabling, tabling-starts, tabling-length, tabling-room, tabling-goes-on, tabling-ends}
+use Rattle.stops.specs.Cuts.{unbroken}
 use Rattle.rules.specs.Marking.{marksAt}
 use Rattle.rules.proofs.Single.{marks-single}
 use Rattle.rules.proofs.codes.mark_beyond.Statement.{statement}
 use Rattle.rules.proofs.codes.mark_beyond.Tie as tie
 
 abbrev Inv-loop : tie.InvT-loop
-Inv-loop l set values out₀ i₀ out i = Tabling (marksAt l set values) (length values) out₀ out i
+Inv-loop l set values out₀ i₀ out i = Tabling (marksAt unbroken l set values) (length values) out₀ out i
 
 abbrev μ-loop : tie.MeasureT-loop
 μ-loop l set values out₀ i₀ out i = length values - i

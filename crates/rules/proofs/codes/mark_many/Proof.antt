@@ -5,6 +5,7 @@ use native.Mathlib.Omega.{arith}
 use borrow.Author.Needs.{needs}
 use lib.ListN.{length}
 use Rattle.laws.proofs.Filling.{Tabling, tabling-starts, tabling-length, tabling-ends}
+use Rattle.stops.specs.Cuts.{unbroken}
 use Rattle.rules.specs.Marking.{marksAt}
 use Rattle.rules.proofs.Blocks.{marks-part, goes-back}
 use Rattle.rules.proofs.Making.{clear-zeros}
@@ -13,7 +14,7 @@ use Rattle.rules.proofs.codes.mark_many.Statement.{statement}
 use Rattle.rules.proofs.codes.mark_many.Tie as tie
 
 abbrev Inv-loop : tie.InvT-loop
-Inv-loop l set values out₀ n at₀ out at = Tabling (marksAt l set values) (length values) out₀ out at
+Inv-loop l set values out₀ n at₀ out at = Tabling (marksAt unbroken l set values) (length values) out₀ out at
 
 abbrev μ-loop : tie.MeasureT-loop
 μ-loop l set values out₀ n at₀ out at = length values - at
@@ -47,7 +48,7 @@ loop-again c =
     (λ j h. let here : start + (p .result + j) ≡ at .at + j = omega (arith, p .ensures .0) in
     marks-part (s .l) (s .set) (s .values .now) start (at .at + m .result - start) (p .result + j) (omega (arith, p .ensures .0))
     (λ q. goes-back (at .at) (p .result) (p .ensures .2) (omega arith))
-    ∙ ap (marksAt (s .l) (s .set) (s .values .now)) here)
+    ∙ ap (marksAt unbroken (s .l) (s .set) (s .values .now)) here)
     _ _ (omega (arith, long, p .ensures .0)) (c .before .before .before .block .ensures)
 
 pub mark-many-spec : {M : Type 1} → statement M

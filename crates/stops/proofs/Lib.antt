@@ -1,0 +1,3 @@
+-- The laws of stops.
+mod Rising
+pub mod Cuts
