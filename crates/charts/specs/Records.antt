@@ -1,5 +1,5 @@
 -- The record of a chart, and the calls that make one and change one (01, 'The charts'; 'Numbers a call may give back', rows 1, 2, 4, 5, 6
--- and 14, and Order). Definitions only.
+-- and 14, and Order; 02, R-1: the count of stops). Definitions only.
 use mathlib.Core.Bool.{Bool, cond, not, _||_}
 use mathlib.Core.List.{List, [], _∷_, _++_}
 use Prim.Native.Nat.{ℕ, _+_, _*_}
@@ -30,6 +30,7 @@ number refusing.TooShort = 6
 number refusing.Overflow = 7
 number refusing.TooFew = 8
 number refusing.Record = 14
+number refusing.Stops = 15
 
 -- "A refusal gives back the record unchanged"
 abbrev pub changed : Chart → Changed → ℕ × Chart
@@ -64,23 +65,26 @@ recordWrong c room = ownWrong c || ltb room (c .count * c .size)
 -- ---- a chart with one number changed
 
 abbrev pub withSet : Chart → RuleSet → Chart
-withSet c set = record { kind = c .kind; size = c .size; count = c .count; set = set }
+withSet c set = record { kind = c .kind; size = c .size; count = c .count; set = set; stops = c .stops }
 
 abbrev pub withCount : Chart → ℕ → Chart
-withCount c count = record { kind = c .kind; size = c .size; count = count; set = c .set }
+withCount c count = record { kind = c .kind; size = c .size; count = count; set = c .set; stops = c .stops }
+
+abbrev pub withStops : Chart → ℕ → Chart
+withStops c stops = record { kind = c .kind; size = c .size; count = c .count; set = c .set; stops = stops }
 
 -- ---- "New chart: 14 for the kind, 1."
 
--- "A new chart has shewhart."
+-- "A new chart has shewhart.", and a count of stops that is "0 when new"
 abbrev pub newSet : RuleSet
 newSet = record { mask = 1 }
 
 abbrev pub newChart : ℕ → ℕ → Chart
-newChart kind size = record { kind = kind; size = size; count = 0; set = newSet }
+newChart kind size = record { kind = kind; size = size; count = 0; set = newSet; stops = 0 }
 
 -- "all zero for a refused new chart"
 abbrev pub noChart : Chart
-noChart = record { kind = 0; size = 0; count = 0; set = record { mask = 0 } }
+noChart = record { kind = 0; size = 0; count = 0; set = record { mask = 0 }; stops = 0 }
 
 unfoldable pub newOf : ℕ → ℕ → ℕ × Chart
 newOf kind size =
@@ -95,6 +99,11 @@ withSetOf c set =
     firstOf
     ((ownWrong c, (14, c)) ∷ (tooLarge (set .mask), (4, c)) ∷ [])
     (0, withSet c set)
+
+-- ---- the count of stops, "set by a call checking 14 alone" (02, R-1)
+
+unfoldable pub withStopsOf : Chart → ℕ → ℕ × Chart
+withStopsOf c stops = firstOf ((ownWrong c, (14, c)) ∷ []) (0, withStops c stops)
 
 -- ---- "Add: 14, 2, 3, 5, 6."
 

@@ -5,7 +5,7 @@ mod records;
 use rules::MOST;
 use sets::RuleSet;
 ghost use mathlib.Core.Path.{_≡_};
-ghost use Rattle.charts.specs.Records.{number, changed, noChart, newOf, withSetOf, addOf, valuesAfter, ownWrong, recordWrong};
+ghost use Rattle.charts.specs.Records.{number, changed, noChart, newOf, withSetOf, withStopsOf, addOf, valuesAfter, ownWrong, recordWrong};
 
 /// The kind of a chart of individuals and moving ranges.
 pub const INDIVIDUALS: u64 = 1;
@@ -31,6 +31,8 @@ pub struct Chart {
     pub count: usize,
     /// The tests that evaluating applies.
     pub set: RuleSet,
+    /// How many of the positions that are lent to evaluating are stops. It may be any number: evaluating judges it (15).
+    pub stops: usize,
 }
 
 /// Why a call is refused. The number is that of document 01, "Numbers a call may give back".
@@ -53,6 +55,8 @@ pub enum Refusal {
     TooFew,
     /// The record is no chart, or count times size is over the slice (14).
     Record,
+    /// The stops are none of the chart, or more than the list holds (15).
+    Stops,
 }
 
 /// What making or changing a chart answers.
@@ -80,6 +84,7 @@ impl Refusal {
             Refusal::Overflow => 7,
             Refusal::TooFew => 8,
             Refusal::Record => 14,
+            Refusal::Stops => 15,
         }
     }
 }
@@ -99,12 +104,13 @@ impl Changed {
 }
 
 impl Chart {
-    /// A chart with no samples and the set shewhart.
+    /// A chart with no samples, the set shewhart and no stops.
     ///
     /// Gives `Done` with the chart. Refuses, in this order: a kind that is not 1 to 3 (14, `Record`), a size that is not
     /// allowed for the kind (1, `Size`).
     ///
-    /// `Chart::new(2, 5)` is `Changed::Done` with `Chart { kind: 2, size: 5, count: 0, set: RuleSet::shewhart() }`.
+    /// `Chart::new(2, 5)` is `Changed::Done` with `Chart { kind: 2, size: 5, count: 0, set: RuleSet::shewhart(), stops: 0
+    /// }`.
     pub fn new(kind: u64, size: usize) -> Changed
         ensures { λ r. ⌜ changed noChart r ≡ newOf kind size ⌝ }
     {
@@ -119,6 +125,7 @@ impl Chart {
             size: size,
             count: 0,
             set: RuleSet::shewhart(),
+            stops: 0,
         })
     }
 
@@ -159,6 +166,22 @@ impl Chart {
         }
         let mut chart = self;
         chart.set = set;
+        Changed::Done(chart)
+    }
+
+    /// This chart with another count of stops: of the positions that are lent to evaluating, so many are stops.
+    ///
+    /// Gives `Done` with the chart, whatever the count. Refuses a record that is no chart, by its own numbers (14, `Record`).
+    ///
+    /// `chart.with_stops(2)` is `Changed::Done` with the same chart, but for `stops: 2`.
+    pub fn with_stops(self, stops: usize) -> Changed
+        ensures { λ r. ⌜ changed self r ≡ withStopsOf self stops ⌝ }
+    {
+        if self.own_wrong() {
+            return Changed::Refused(Refusal::Record);
+        }
+        let mut chart = self;
+        chart.stops = stops;
         Changed::Done(chart)
     }
 

@@ -42,7 +42,7 @@ returns-3 c =
     let if1 = c .before .before .before .if1 in
     let kind-wrong = c .before .before .before .before .kind-wrong in
     let args = c .before .before .before .before .before .args in
-    ap (λ (m : ℕ). (0, record { kind = args .kind; size = args .size; count = 0; set = record { mask = m } })) (shewhart .ensures)
+    ap (λ (m : ℕ). (0, record { kind = args .kind; size = args .size; count = 0; set = record { mask = m }; stops = 0 })) (shewhart .ensures)
     ∙ sym (passed _ _ _ _ (told (kind-wrong .ensures) (if1 .left)) ∙ passed _ _ _ _ (told (size-wrong .ensures) (if2 .left)) ∙ none-applies _)
 
 pub new-spec : {M : Type 1} → statement M
