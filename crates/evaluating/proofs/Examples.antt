@@ -12,6 +12,7 @@ use Rattle.laws.specs.Lists.{tabulateFrom}
 use Rattle.laws.specs.Refusals.{firstOf}
 use Rattle.sets.specs.Sets.{bitOf, tests, has, setOf}
 use Rattle.root.specs.Root.{rootOf}
+use Rattle.stops.specs.Stops.{stopAt, cutAt, rising, stopsWrong}
 use Rattle.rules.specs.declared.Limits.{Limits}
 use Rattle.floats.specs.Finite.{finite, allFinite}
 use Rattle.floats.specs.Values.{decimal}
@@ -24,9 +25,9 @@ use Rattle.charts.specs.declared.Chart.{Chart}
 use Rattle.charts.specs.Records.{byKind, sizeWrong, ownWrong, recordWrong}
 use Rattle.evaluating.specs.Asked.{Asked, asked}
 use Rattle.evaluating.specs.Factors.{factorOf}
-use Rattle.evaluating.specs.Series.{bySeries, pointAt, pointsIn, pointsOf, seriesOf}
+use Rattle.evaluating.specs.Series.{bySeries, pointAt, pointsIn, pointsOf, seriesOf, movingIn}
 use Rattle.evaluating.specs.Limits.{factorFor, mainLimits, lowerLimit, dispersionLimits, centreOf, limitsOf}
-use Rattle.evaluating.specs.Evaluating.{Answer, answerRefused, tooFew, noRoom, sound, seriesMarks, numberOf, answerFor, evaluateOf}
+use Rattle.evaluating.specs.Evaluating.{Answer, answerRefused, positionsWrong, tooFew, noRoom, sound, seriesMarks, numberOf, answerFor, evaluateOf}
 use Rattle.evaluating.specs.Sigma.{sigmaNumber, unlessRefused, sigmaFrom, sigmaHatOf, dfOf}
 
 abbrev pub bits : Float → ℕ
@@ -34,7 +35,7 @@ bits x = toBits binary64 x
 
 -- individuals, n observations, set shewhart
 abbrev pub individuals : ℕ → Chart
-individuals n = record { kind = 1; size = 1; count = n; set = record { mask = 1 } }
+individuals n = record { kind = 1; size = 1; count = n; set = record { mask = 1 }; stops = 0 }
 
 -- ---- "three observations of 0.1 have the mean 0.10000000000000002 here, range 0, and all three get bit 0"
 
@@ -67,7 +68,7 @@ pub tenths-marks : seriesMarks threeTenths 0 ≡ (1 ∷ 1 ∷ 1 ∷ [])
 unfolding limitsOf centreOf mainLimits dispersionLimits lowerLimit factorFor factorOf
     seriesOf tabulateFrom pointAt pointsIn byKind bySeries movingOf signCleared meanOf
     seriesMarks marksOf marksAt linesOf oneSigma twoSigma setOf fromBits has hasBit tests bitOf
-    newestFirst stands window shows steps alternating every count
+    newestFirst movingIn cutAt stopAt stands window shows steps alternating every count
     ofBits ofInt round add sub mul div lt le
 tenths-marks = refl
 
@@ -76,11 +77,11 @@ abbrev pub tenthsAnswer : Answer
 tenthsAnswer = evaluateOf threeTenths (noRoom (individuals 3) 3 2 3 2)
 
 pub tenths-answer : (eqb (tenthsAnswer .number) 0 && eqb (tenthsAnswer .marks) 3 && not (tenthsAnswer .noneStands)) ≡ true
-unfolding evaluateOf answerFor firstOf recordWrong ownWrong sizeWrong tooFew noRoom sound allFinite finite finiteLimits every
+unfolding evaluateOf answerFor firstOf recordWrong ownWrong sizeWrong positionsWrong stopsWrong rising tooFew noRoom sound allFinite finite finiteLimits every
     limitsOf centreOf mainLimits dispersionLimits lowerLimit factorFor factorOf
     seriesOf tabulateFrom pointAt pointsIn byKind bySeries movingOf signCleared meanOf
     seriesMarks numberOf marksOf marksAt linesOf oneSigma twoSigma setOf fromBits has hasBit tests bitOf
-    newestFirst stands window shows steps alternating count
+    newestFirst movingIn cutAt stopAt stands window shows steps alternating count
     ofBits toBits ofInt round add sub mul div lt le
 tenths-answer = refl
 
@@ -105,7 +106,7 @@ tenths-points = (refl, refl)
 
 -- so many values to a subgroup
 abbrev pub subgroups : ℕ → ℕ → Chart
-subgroups kind n = record { kind = kind; size = n; count = 2; set = record { mask = 1 } }
+subgroups kind n = record { kind = kind; size = n; count = 2; set = record { mask = 1 }; stops = 0 }
 
 abbrev pub limitsAre : ℕ → ℕ → ℕ → Limits → Bool
 limitsAre u c l x = eqb (bits (x .ucl)) u && eqb (bits (x .cl)) c && eqb (bits (x .lcl)) l
@@ -135,7 +136,7 @@ pub pairs-marks : seriesMarks (asked (subgroups 2 2) pairs) 0 ≡ (1 ∷ 1 ∷ [
 unfolding limitsOf centreOf mainLimits dispersionLimits lowerLimit factorFor factorOf
     seriesOf tabulateFrom pointAt pointsIn byKind bySeries meanOf rangeOf
     seriesMarks marksOf marksAt linesOf oneSigma twoSigma setOf fromBits has hasBit tests bitOf
-    newestFirst stands window shows steps alternating every count
+    newestFirst movingIn cutAt stopAt stands window shows steps alternating every count
     ofBits ofInt round add sub mul div lt le
 pairs-marks = refl
 
@@ -143,7 +144,7 @@ pub pairs-ranges : seriesMarks (asked (subgroups 2 2) pairs) 1 ≡ (0 ∷ 0 ∷ 
 unfolding limitsOf centreOf mainLimits dispersionLimits lowerLimit factorFor factorOf
     seriesOf tabulateFrom pointAt pointsIn byKind bySeries meanOf rangeOf
     seriesMarks marksOf marksAt linesOf oneSigma twoSigma setOf fromBits has hasBit tests bitOf
-    newestFirst stands window shows steps alternating every count
+    newestFirst movingIn cutAt stopAt stands window shows steps alternating every count
     ofBits ofInt round add sub mul div lt le
 pairs-ranges = refl
 
@@ -166,7 +167,7 @@ pub threes-marks : seriesMarks (asked (subgroups 3 3) threes) 0 ≡ (1 ∷ 1 ∷
 unfolding limitsOf centreOf mainLimits dispersionLimits lowerLimit factorFor factorOf
     seriesOf tabulateFrom pointAt pointsIn byKind bySeries meanOf deviationOf orNan rootOf
     seriesMarks marksOf marksAt linesOf oneSigma twoSigma setOf fromBits has hasBit tests bitOf
-    newestFirst stands window shows steps alternating every count
+    newestFirst movingIn cutAt stopAt stands window shows steps alternating every count
     ofBits ofInt round add sub mul div lt le
 threes-marks = refl
 
@@ -174,14 +175,14 @@ pub threes-deviations : seriesMarks (asked (subgroups 3 3) threes) 1 ≡ (0 ∷ 
 unfolding limitsOf centreOf mainLimits dispersionLimits lowerLimit factorFor factorOf
     seriesOf tabulateFrom pointAt pointsIn byKind bySeries meanOf deviationOf orNan rootOf
     seriesMarks marksOf marksAt linesOf oneSigma twoSigma setOf fromBits has hasBit tests bitOf
-    newestFirst stands window shows steps alternating every count
+    newestFirst movingIn cutAt stopAt stands window shows steps alternating every count
     ofBits ofInt round add sub mul div lt le
 threes-deviations = refl
 
 -- ---- one observation is too few (8), which says that no mark stands; the range of two may be too large (7)
 
 pub one-observation : evaluateOf (asked (individuals 1) (decimal 1 80 ∷ [])) (noRoom (individuals 1) 1 0 1 0) ≡ answerRefused 8
-unfolding evaluateOf answerFor firstOf recordWrong ownWrong sizeWrong tooFew noRoom byKind bySeries pointsIn
+unfolding evaluateOf answerFor firstOf recordWrong ownWrong sizeWrong positionsWrong stopsWrong rising every tooFew noRoom byKind bySeries pointsIn
 one-observation = refl
 
 -- the largest f64, then its opposite
@@ -189,7 +190,7 @@ abbrev pub apart : List Float
 apart = ofBits binary64 0x7fefffffffffffff ∷ ofBits binary64 0xffefffffffffffff ∷ []
 
 pub apart-number : eqb (evaluateOf (asked (individuals 2) apart) (noRoom (individuals 2) 2 1 2 1) .number) 7 ≡ true
-unfolding evaluateOf answerFor firstOf recordWrong ownWrong sizeWrong tooFew noRoom sound allFinite finite finiteLimits every
+unfolding evaluateOf answerFor firstOf recordWrong ownWrong sizeWrong positionsWrong stopsWrong rising tooFew noRoom sound allFinite finite finiteLimits every
     limitsOf centreOf mainLimits dispersionLimits lowerLimit factorFor factorOf
     seriesOf tabulateFrom pointAt pointsIn byKind bySeries movingOf signCleared meanOf
     ofBits ofInt round add sub mul div

@@ -2,7 +2,7 @@
 pub mod Answers
 pub mod SeriesPoints
 mod Counting
-mod Measures
+pub mod Measures
 pub mod Outcomes
 mod Figures
 pub mod Examples

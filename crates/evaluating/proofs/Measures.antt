@@ -16,7 +16,8 @@ use Rattle.rules.specs.declared.Limits.{Limits}
 use Rattle.rules.specs.Finite.{finiteLimits}
 use Rattle.arith.specs.Arith.{meanOf}
 use Rattle.arith.proofs.Means.{finite-mean}
-use Rattle.evaluating.specs.Asked.{Asked}
+use Rattle.charts.specs.declared.Chart.{Chart}
+use Rattle.evaluating.specs.Asked.{Asked, interrupted, stopsAmong}
 use Rattle.evaluating.specs.Series.{bySeries, pointAt, pointsIn, seriesOf}
 use Rattle.evaluating.specs.Limits.{mainLimits, dispersionLimits, centreOf, limitsOf}
 use Rattle.evaluating.specs.Evaluating.{sound}
@@ -30,6 +31,10 @@ unfolding seriesOf
 front-series a s n old now e f =
     ap₂ (λ (k : ℕ) (l : List Float). take k l) (sub-zero n ∙ e) f
     ∙ take-at (tabulate (pointAt a s) (pointsIn (a .chart) s)) _ (pointsIn (a .chart) s) (length-tabulate (pointAt a s) (pointsIn (a .chart) s))
+
+-- the stops at the front of the positions
+pub front-stops : (c : Chart) (positions : List ℕ) → take (c .stops - 0) positions ≡ stopsAmong c positions
+front-stops c positions = ap (λ (n : ℕ). take n positions) (sub-zero (c .stops))
 
 -- ---- finite limits are those of finite points
 
@@ -65,3 +70,14 @@ module _ (a : Asked) where
       → limitsFrom (a .chart) (meanOf main) (meanOf dispersion) ≡ measured a
   unfolding centreOf
   from-series m d = ap₂ (λ (l k : List Float). limitsFrom (a .chart) (meanOf l) (meanOf k)) m d ∙ from-centres
+
+-- ---- stops change neither the series nor what is measured of them: a moving range that straddles one counts towards the limits
+
+module _ (a : Asked) (positions : List ℕ) where
+  pub same-series : (s : ℕ) → seriesOf (interrupted a positions) s ≡ seriesOf a s
+  unfolding seriesOf pointAt
+  same-series s = refl
+
+  pub same-measures : measured (interrupted a positions) ≡ measured a
+  unfolding sound limitsOf bySeries centreOf seriesOf pointAt
+  same-measures = refl

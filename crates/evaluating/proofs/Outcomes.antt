@@ -7,6 +7,7 @@ use native.Mathlib.Decide.{ℕ-discrete}
 use native.Mathlib.Omega.{arith}
 use borrow.Author.Tests.{ltb-false, eq-eqb, ne-eqb, not-true}
 use lib.Dec.{ltb, eqb}
+use lib.Ieee.{Float}
 use lib.ListN.{length, drop, replicate}
 use Rattle.laws.specs.Bools.{every}
 use Rattle.laws.specs.Refusals.{firstOf}
@@ -17,7 +18,8 @@ use Rattle.floats.specs.Finite.{allFinite}
 use Rattle.rules.specs.declared.Limits.{Limits}
 use Rattle.rules.specs.Finite.{finiteLimits}
 use Rattle.rules.specs.Marking.{marksOf, answerOf}
-use Rattle.rules.specs.Terms.{under}
+use Rattle.rules.specs.Terms.{Terms, under}
+use Rattle.stops.specs.Stops.{stopsWrong, mainPoints}
 use Rattle.rules.proofs.Accepted as marking
 use Rattle.charts.specs.declared.Chart.{Chart}
 use Rattle.charts.specs.declared.Refusal.{Refusal}
@@ -27,13 +29,13 @@ use Rattle.charts.proofs.Cases.{kind-1, subgroups, or-left, or-right}
 use Rattle.charts.proofs.Held.{held}
 use Rattle.evaluating.specs.declared.checks.Tested.{Tested}
 use Rattle.evaluating.specs.declared.checks.Tested.the-variants as testing
-use Rattle.evaluating.specs.Asked.{Asked}
-use Rattle.evaluating.specs.Series.{pointsIn, seriesOf}
+use Rattle.evaluating.specs.Asked.{Asked, stopsAmong}
+use Rattle.evaluating.specs.Series.{pointsIn, seriesOf, movingIn}
 use Rattle.evaluating.specs.Limits.{limitsOf}
-use Rattle.evaluating.specs.Evaluating.{answerDone, answerRefused, tooFew, noRoom, sound, refusals}
+use Rattle.evaluating.specs.Evaluating.{answerDone, answerRefused, positionsWrong, tooFew, noRoom, sound, refusals}
 use Rattle.evaluating.specs.Evaluating.{seriesMarks, numberOf, doneOf, answerFor, evaluateOf, lentAfter}
 use Rattle.evaluating.specs.Steps.{ahead, tested}
-use Rattle.evaluating.proofs.SeriesPoints.{points-most, length-series}
+use Rattle.evaluating.proofs.SeriesPoints.{points-most, main-points, length-series}
 
 -- ---- what passed tests tell
 
@@ -68,63 +70,73 @@ rooms c a b x y h =
       dispersion-marks-room = ltb-false y (pointsIn c 1) (or-right (p || q || r) s h);
     }
 
-module _ (a : Asked) (short : Bool) where
+-- there are as many positions as the record counts stops
+pub counted : (c : Chart) (positions : List ℕ) → positionsWrong c positions ≡ false → c .stops ≤ length positions
+unfolding positionsWrong
+counted c positions h = ltb-false (length positions) (c .stops) (or-left (ltb (length positions) (c .stops)) _ h)
+
+module _ (a : Asked) (wrong short : Bool) where
   pub record Ahead : Type 0 where
     pub right : recordWrong (a .chart) (length (a .values)) ≡ false
+    pub stopped : wrong ≡ false
+    pub enough : tooFew (a .chart) ≡ false
     pub room : short ≡ false
 
-  pub were-ahead : firstOf (ahead a short) 0 ≡ 0 → Ahead
+  pub were-ahead : firstOf (ahead a wrong short) 0 ≡ 0 → Ahead
   unfolding Passed every
-  were-ahead e = let all = were-passed (ahead a short) refl e in record { right = all .0; room = all .1 .1 .0 }
+  were-ahead e =
+      let all = were-passed (ahead a wrong short) refl e in
+      record { right = all .0; stopped = all .1 .0; enough = all .1 .1 .0; room = all .1 .1 .1 .0 }
 
   -- where they are passed, 7 decides
-  whole : firstOf (refusals a short) 0
-      ≡ cond (eqb (firstOf (ahead a short) 0) 0) (firstOf (drop 4 (refusals a short)) 0) (firstOf (ahead a short) 0)
+  whole : firstOf (refusals a wrong short) 0
+      ≡ cond (eqb (firstOf (ahead a wrong short) 0) 0) (firstOf (drop 5 (refusals a wrong short)) 0) (firstOf (ahead a wrong short) 0)
   unfolding every
-  whole = first-append (ahead a short) (drop 4 (refusals a short)) 0 ∙ first-else (ahead a short) _ refl
+  whole = first-append (ahead a wrong short) (drop 5 (refusals a wrong short)) 0 ∙ first-else (ahead a wrong short) _ refl
 
-  module _ (e : firstOf (ahead a short) 0 ≡ 0) where
-    by-7 : firstOf (refusals a short) 0 ≡ firstOf (drop 4 (refusals a short)) 0
-    by-7 = whole ∙ ap (λ (b : Bool). cond b (firstOf (drop 4 (refusals a short)) 0) (firstOf (ahead a short) 0)) (eq-eqb _ 0 e)
+  module _ (e : firstOf (ahead a wrong short) 0 ≡ 0) where
+    by-7 : firstOf (refusals a wrong short) 0 ≡ firstOf (drop 5 (refusals a wrong short)) 0
+    by-7 = whole ∙ ap (λ (b : Bool). cond b (firstOf (drop 5 (refusals a wrong short)) 0) (firstOf (ahead a wrong short) 0)) (eq-eqb _ 0 e)
 
-    pub number-7 : sound a ≡ false → firstOf (refusals a short) 0 ≡ 7
+    pub number-7 : sound a ≡ false → firstOf (refusals a wrong short) 0 ≡ 7
     number-7 h = by-7 ∙ refused _ _ _ _ (ap not h)
 
-    pub number-0 : sound a ≡ true → firstOf (refusals a short) 0 ≡ 0
+    pub number-0 : sound a ≡ true → firstOf (refusals a wrong short) 0 ≡ 0
     number-0 h = by-7 ∙ passed _ _ _ _ (ap not h) ∙ none-applies 0
 
   -- ---- refused ahead of 7
 
-  module _ {why : Refusal} {t : Tested} (is : t ≡ testing.Refused why) (found : tested t ≡ firstOf (ahead a short) 0) where
-    e : firstOf (ahead a short) 0 ≡ number why
+  module _ {why : Refusal} {t : Tested} (is : t ≡ testing.Refused why) (found : tested t ≡ firstOf (ahead a wrong short) 0) where
+    e : firstOf (ahead a wrong short) 0 ≡ number why
     e = sym found ∙ ap tested is
 
-    pub number-ahead : firstOf (refusals a short) 0 ≡ number why
+    pub number-ahead : firstOf (refusals a wrong short) 0 ≡ number why
     number-ahead =
         whole
-        ∙ ap (λ (n : ℕ). cond (eqb n 0) (firstOf (drop 4 (refusals a short)) 0) n) e
-        ∙ ap (λ (b : Bool). cond b (firstOf (drop 4 (refusals a short)) 0) (number why)) (ne-eqb (number why) 0 (number-some why))
+        ∙ ap (λ (n : ℕ). cond (eqb n 0) (firstOf (drop 5 (refusals a wrong short)) 0) n) e
+        ∙ ap (λ (b : Bool). cond b (firstOf (drop 5 (refusals a wrong short)) 0) (number why)) (ne-eqb (number why) 0 (number-some why))
 
     pub slice-refused : {A : Type 0} (nought : A) (written old : List A) → old ≡ lentAfter (number why) nought written old
     unfolding lentAfter every
     slice-refused nought written old =
         let at-7 : eqb (number why) 7 ≡ false =
-        ap (λ (n : ℕ). eqb n 7) (sym e) ∙ not-true (eqb (firstOf (ahead a short) 0) 7) (first-such (λ n. not (eqb n 7)) (ahead a short) refl refl) in
+        ap (λ (n : ℕ). eqb n 7) (sym e) ∙ not-true (eqb (firstOf (ahead a wrong short) 0) 7) (first-such (λ n. not (eqb n 7)) (ahead a wrong short) refl refl) in
         sym
         (ap (λ (z : Bool). cond z (atFront written old) (cond (eqb (number why) 7) (replicate (length old) nought) old))
         (ne-eqb (number why) 0 (number-some why))
         ∙ ap (λ (z : Bool). cond z (replicate (length old) nought) old) at-7)
 
-  -- ---- the answer, by its number
+-- ---- the answer, by its number
 
-  pub answer-refused : (n : ℕ) → firstOf (refusals a short) 0 ≡ n → (n ≡ 0 → ⊥) → answerRefused n ≡ evaluateOf a short
+module _ (a : Asked) (short : Bool) where
+  pub answer-refused : (n : ℕ) → firstOf (refusals a (positionsWrong (a .chart) (a .positions)) short) 0 ≡ n → (n ≡ 0 → ⊥) → answerRefused n ≡ evaluateOf a short
   unfolding evaluateOf answerFor
   answer-refused n is some =
       sym
       (ap (λ (k : ℕ). answerFor k a) is
       ∙ ap (λ (b : Bool). cond b (doneOf a) (answerRefused n)) (ne-eqb n 0 some))
 
-  pub answer-done : firstOf (refusals a short) 0 ≡ 0 → doneOf a ≡ evaluateOf a short
+  pub answer-done : firstOf (refusals a (positionsWrong (a .chart) (a .positions)) short) 0 ≡ 0 → doneOf a ≡ evaluateOf a short
   unfolding evaluateOf answerFor
   answer-done is = sym (ap (λ (k : ℕ). answerFor k a) is)
 
@@ -158,26 +170,38 @@ sound-parts a h =
     let limits = both r s (all .1) in
     (record { points = points .0; limits = limits .0 }, record { points = points .1; limits = limits .1 })
 
-pub marking-done : (a : Asked) (s room : ℕ) → recordWrong (a .chart) (length (a .values)) ≡ false → Sound a s
-    → pointsIn (a .chart) s ≤ room → {l : Limits} → l ≡ limitsOf a s → {points : List _} → points ≡ seriesOf a s
-    → answerOf (under l) (a .chart .set .mask) points room ≡ 0
-marking-done a s room right fine h e f =
-    let own = held (a .chart) (length (a .values)) right .figures in
-    ap₂ (λ (l : Limits) (p : List _). answerOf (under l) (a .chart .set .mask) p room) e f
-    ∙ marking.answer-done (under (limitsOf a s)) (a .chart .set .mask) (seriesOf a s) room
-    (marking.accepts (under (limitsOf a s)) (a .chart .set .mask) (seriesOf a s) (record {
-      few = omega (arith, length-series a s, points-most (a .chart) s, own .few);
-      small = own .set-small;
-      sound = fine .limits;
-      finite = fine .points;
-    }))
-    (omega (arith, length-series a s, h))
+-- of a series: its limits, points and stops as the code has them
+module _ (a : Asked) (s : ℕ) {l : Limits} (e : l ≡ limitsOf a s) {points : List Float} (f : points ≡ seriesOf a s)
+    {stops : List ℕ} (g : stops ≡ stopsAmong (a .chart) (a .positions)) {moving : Bool} (m : moving ≡ movingIn (a .chart) s) where
+  abbrev theirs : Terms
+  theirs = under (limitsOf a s) (stopsAmong (a .chart) (a .positions)) (movingIn (a .chart) s)
 
--- and its marks are those of the series
-pub marks-are : (a : Asked) (s : ℕ) {l : Limits} → l ≡ limitsOf a s → {points : List _} → points ≡ seriesOf a s
-    → marksOf (under l) (a .chart .set .mask) points ≡ seriesMarks a s
-unfolding seriesMarks
-marks-are a s e f = ap₂ (λ (l : Limits) (p : List _). marksOf (under l) (a .chart .set .mask) p) e f
+  same-terms : under l stops moving ≡ theirs
+  same-terms = cc
+
+  pub marking-done : (room : ℕ) → recordWrong (a .chart) (length (a .values)) ≡ false → positionsWrong (a .chart) (a .positions) ≡ false
+      → tooFew (a .chart) ≡ false → Sound a s → pointsIn (a .chart) s ≤ room → answerOf (under l stops moving) (a .chart .set .mask) points room ≡ 0
+  unfolding positionsWrong
+  marking-done room right stopped enough fine h =
+      let own = held (a .chart) (length (a .values)) right .figures in
+      ap₂ (λ (t : Terms) (p : List _). answerOf t (a .chart .set .mask) p room) same-terms f
+      ∙ marking.answer-done theirs (a .chart .set .mask) (seriesOf a s) room
+      (marking.accepts theirs (a .chart .set .mask) (seriesOf a s) (record {
+        few = omega (arith, length-series a s, points-most (a .chart) s, own .few);
+        stopped =
+            ap (λ (n : ℕ). stopsWrong n (stopsAmong (a .chart) (a .positions)))
+            (ap (mainPoints (movingIn (a .chart) s)) (length-series a s) ∙ main-points (a .chart) s (some-held (a .chart) enough))
+            ∙ or-right (ltb (length (a .positions)) (a .chart .stops)) _ stopped;
+        small = own .set-small;
+        sound = fine .limits;
+        finite = fine .points;
+      }))
+      (omega (arith, length-series a s, h))
+
+  -- and its marks are those of the series
+  pub marks-are : marksOf (under l stops moving) (a .chart .set .mask) points ≡ seriesMarks a s
+  unfolding seriesMarks
+  marks-are = ap₂ (λ (t : Terms) (p : List _). marksOf t (a .chart .set .mask) p) same-terms f
 
 pub done-by : (a : Asked) {main dispersion : Limits} {marks others : List ℕ} → main ≡ limitsOf a 0 → dispersion ≡ limitsOf a 1
     → marks ≡ seriesMarks a 0 → others ≡ seriesMarks a 1 → answerDone main dispersion (numberOf marks + numberOf others) ≡ doneOf a

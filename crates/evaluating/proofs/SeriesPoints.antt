@@ -1,22 +1,24 @@
 -- A point of a series: how far it reaches into the values, and its case. Assumes nothing.
-use mathlib.Core.Path.{_≡_, refl, sym, ap, _∙_}
+use mathlib.Core.Path.{_≡_, refl, sym, ap, ap₂, _∙_}
 use mathlib.Core.List.{List}
 use Prim.Native.Nat.{ℕ, suc, _+_, _-_, _*_, _≤_, _<_}
 use native.Mathlib.Decide.{ℕ-discrete}
 use native.Mathlib.Nat.{mul-le-mul-right, mul-le-mul-left, suc-mul, mul-one, le-trans, add-sub-cancel-left}
 use native.Mathlib.Omega.{arith}
-use mathlib.Core.Bool.{false}
+use mathlib.Core.Bool.{Bool, true, false, cond}
 use borrow.Author.Tests.{ne-eqb}
+use lib.Dec.{eqb}
 use lib.ListN.{length, take, drop, getD}
 use lib.Ieee.{Float, nan}
 use Rattle.laws.proofs.Lists.{length-tabulate}
+use Rattle.stops.specs.Stops.{mainPoints}
 use Rattle.arith.specs.Arith.{meanOf, rangeOf, deviationOf, movingOf}
 use Rattle.charts.specs.declared.Chart.{Chart}
 use Rattle.charts.specs.Records.{byKind, recordWrong}
 use Rattle.charts.proofs.Cases.{kind-1, kind-2, kind-3, subgroups}
 use Rattle.charts.proofs.Held.{held}
 use Rattle.evaluating.specs.Asked.{Asked, asked, sampleAt}
-use Rattle.evaluating.specs.Series.{bySeries, pointAt, pointsIn, seriesOf}
+use Rattle.evaluating.specs.Series.{bySeries, pointAt, pointsIn, seriesOf, movingIn}
 
 -- ---- how many points
 
@@ -42,6 +44,39 @@ points-most c s = by (ℕ-discrete s 0) (ℕ-discrete (c .kind) 1)
     by (yes z) d = rw z (omega (arith, points-main c))
     by (no z) (no ne) = omega (arith, points-subgroups c s z ne)
     by (no z) (yes e) = omega (arith, points-moving c s z e)
+
+-- ---- which series is that of the moving ranges
+
+pub moving-main : (c : Chart) → false ≡ movingIn c 0
+unfolding movingIn bySeries
+moving-main c = refl
+
+pub moving-is : (c : Chart) → eqb (c .kind) 1 ≡ movingIn c 1
+unfolding movingIn bySeries byKind
+moving-is c = by (eqb (c .kind) 1) (eqb (c .kind) 2)
+  where
+    by : (b d : Bool) → b ≡ cond b true (cond d false false)
+    by true d = refl
+    by false true = refl
+    by false false = refl
+
+-- the main series has a point more, and else as many
+pub main-points : (c : Chart) (s : ℕ) → 1 ≤ c .count → mainPoints (movingIn c s) (pointsIn c s) ≡ pointsIn c 0
+unfolding movingIn bySeries pointsIn
+main-points c s some = by (eqb s 0)
+  where
+    by : (b : Bool)
+        → mainPoints (cond b false (byKind (c .kind) true false false)) (cond b (c .count) (byKind (c .kind) (c .count - 1) (c .count) (c .count))) ≡ c .count
+    by true = refl
+    by false = of (ℕ-discrete (c .kind) 1)
+      where
+        of : Dec (c .kind ≡ 1) → mainPoints (byKind (c .kind) true false false) (byKind (c .kind) (c .count - 1) (c .count) (c .count)) ≡ c .count
+        of (yes e) =
+            let one : suc (c .count - 1) ≡ c .count = omega arith in
+            ap₂ mainPoints (kind-1 (c .kind) true false false e) (kind-1 (c .kind) (c .count - 1) (c .count) (c .count) e) ∙ one
+        of (no ne) = ap₂ mainPoints (subgroups (c .kind) true false ne) (subgroups (c .kind) (c .count - 1) (c .count) ne)
+
+-- ---- the series
 
 pub length-series : (a : Asked) (s : ℕ) → length (seriesOf a s) ≡ pointsIn (a .chart) s
 unfolding seriesOf

@@ -1,5 +1,6 @@
--- What a chart is asked about: "a small record .. beside a lent slice of f64" (01, 'The charts', last paragraph). Definitions only.
-use mathlib.Core.List.{List}
+-- What a chart is asked about: "a small record .. beside a lent slice of f64" (01, 'The charts', last paragraph), and for evaluating "a lent
+-- .. list of positions" (02, R-1). Definitions only.
+use mathlib.Core.List.{List, []}
 use Prim.Native.Nat.{ℕ, _*_}
 use lib.Ieee.{Float}
 use lib.ListN.{take, drop}
@@ -8,9 +9,19 @@ use Rattle.charts.specs.declared.Chart.{Chart}
 pub record Asked : Type 0 where
   pub chart : Chart
   pub values : List Float
+  pub positions : List ℕ
 
+-- beside values alone
 abbrev pub asked : Chart → List Float → Asked
-asked c values = record { chart = c; values = values }
+asked c values = record { chart = c; values = values; positions = [] }
+
+-- and beside a list of positions
+abbrev pub interrupted : Asked → List ℕ → Asked
+interrupted a positions = record { chart = a .chart; values = a .values; positions = positions }
+
+-- the stops: of the positions the first, as many as the record counts
+abbrev pub stopsAmong : Chart → List ℕ → List ℕ
+stopsAmong c positions = take (c .stops) positions
 
 -- the stored values
 abbrev pub stored : Asked → List Float

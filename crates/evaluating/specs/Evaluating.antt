@@ -1,5 +1,5 @@
 -- Evaluating: its answer, and what each lent slice then holds (01, 'The charts', last paragraph; 'Numbers a call may give back', rows 3, 6,
--- 7 and 8, and Order). Definitions only.
+-- 7 and 8, and Order; 02, R-1: row 15). Definitions only.
 use mathlib.Core.Bool.{Bool, cond, not, _&&_, _||_}
 use mathlib.Core.List.{List, [], _∷_, map}
 use Prim.Native.Nat.{ℕ, _+_}
@@ -8,6 +8,7 @@ use lib.ListN.{length, replicate}
 use Rattle.laws.specs.Bools.{count}
 use Rattle.laws.specs.Refusals.{firstOf}
 use Rattle.laws.specs.Front.{atFront}
+use Rattle.stops.specs.Stops.{stopsWrong}
 use Rattle.sets.specs.Sets.{tests, has}
 use Rattle.rules.specs.declared.Limits.{Limits}
 use Rattle.floats.specs.Finite.{allFinite}
@@ -19,8 +20,8 @@ use Rattle.charts.specs.declared.Chart.{Chart}
 use Rattle.evaluating.specs.declared.Evaluated.{Evaluated}
 use Rattle.evaluating.specs.declared.Evaluated.the-variants.{Done, Refused}
 use Rattle.charts.specs.Records.{number, byKind, recordWrong}
-use Rattle.evaluating.specs.Asked.{Asked, stored}
-use Rattle.evaluating.specs.Series.{pointsIn, seriesOf}
+use Rattle.evaluating.specs.Asked.{Asked, stored, stopsAmong}
+use Rattle.evaluating.specs.Series.{pointsIn, seriesOf, movingIn}
 use Rattle.evaluating.specs.Limits.{limitsOf}
 
 -- ---- the number and the values that each answer stands for
@@ -52,7 +53,11 @@ abbrev pub evaluated : Evaluated → Answer
 evaluated (Done e) = answerDone (e .main) (e .dispersion) (e .marks)
 evaluated (Refused why) = answerRefused (number why)
 
--- ---- "Evaluate: 14, 8, 6, 3 for stored values, 7."
+-- ---- "Evaluate: 14, 8, 6, 3 for stored values, 7.", and 15 "after 14 in evaluating"
+
+-- 15: "stops not strictly rising, outside 1 to the main series' points less one, or more than the list holds"
+unfoldable pub positionsWrong : Chart → List ℕ → Bool
+positionsWrong c positions = ltb (length positions) (c .stops) || stopsWrong (pointsIn c 0) (stopsAmong c positions)
 
 -- 8: "no subgroup, or fewer than 2 observations"
 unfoldable pub tooFew : Chart → Bool
@@ -67,11 +72,12 @@ noRoom c main dispersion mainMarks dispersionMarks =
 unfoldable pub sound : Asked → Bool
 sound a = allFinite (seriesOf a 0) && allFinite (seriesOf a 1) && (finiteLimits (limitsOf a 0) && finiteLimits (limitsOf a 1))
 
--- All of them; `short` says whether 6 applies. The sigma figures have theirs by this list too ("14, 8, 3, 7, as evaluating would"): no slice
--- is lent to them that could be short.
-abbrev pub refusals : Asked → Bool → List (Bool × ℕ)
-refusals a short =
+-- All of them; `wrong` says whether 15 applies, `short` whether 6 does. The sigma figures have theirs by this list too ("14, 8, 3, 7, as
+-- evaluating would"): no positions are lent to them that could be wrong, and no slice that could be short.
+abbrev pub refusals : Asked → Bool → Bool → List (Bool × ℕ)
+refusals a wrong short =
     (recordWrong (a .chart) (length (a .values)), 14)
+    ∷ (wrong, 15)
     ∷ (tooFew (a .chart), 8)
     ∷ (short, 6)
     ∷ (not (allFinite (stored a)), 3)
@@ -82,7 +88,7 @@ refusals a short =
 
 -- the marks of a series
 unfoldable pub seriesMarks : Asked → ℕ → List ℕ
-seriesMarks a s = marksOf (under (limitsOf a s)) (a .chart .set .mask) (seriesOf a s)
+seriesMarks a s = marksOf (under (limitsOf a s) (stopsAmong (a .chart) (a .positions)) (movingIn (a .chart) s)) (a .chart .set .mask) (seriesOf a s)
 
 -- "the number of marks (pairs of point and test, ..)"
 unfoldable pub numberOf : List ℕ → ℕ
@@ -99,7 +105,7 @@ unfoldable pub answerFor : ℕ → Asked → Answer
 answerFor n a = cond (eqb n 0) (doneOf a) (answerRefused n)
 
 unfoldable pub evaluateOf : Asked → Bool → Answer
-evaluateOf a short = answerFor (firstOf (refusals a short) 0) a
+evaluateOf a short = answerFor (firstOf (refusals a (positionsWrong (a .chart) (a .positions)) short) 0) a
 
 -- ---- the lent slices
 

@@ -1,5 +1,5 @@
 -- The two series of a chart: series 0 is the main one, series 1 that of the dispersion (01, 'The charts'). Definitions only.
-use mathlib.Core.Bool.{cond}
+use mathlib.Core.Bool.{Bool, true, false, cond}
 use mathlib.Core.List.{List, [], _∷_}
 use Prim.Native.Nat.{ℕ, _+_, _-_}
 use lib.Dec.{eqb}
@@ -34,6 +34,10 @@ pointsIn c s = bySeries s (c .count) (byKind (c .kind) (c .count - 1) (c .count)
 
 unfoldable pub seriesOf : Asked → ℕ → List Float
 seriesOf a s = tabulate (pointAt a s) (pointsIn (a .chart) s)
+
+-- whether a series is that of the moving ranges
+unfoldable pub movingIn : Chart → ℕ → Bool
+movingIn c s = bySeries s false (byKind (c .kind) true false false)
 
 -- ---- how many points there are
 

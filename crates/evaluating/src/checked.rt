@@ -7,9 +7,11 @@ use super::limits::Measured;
 use super::marks;
 use super::series;
 use charts::Chart;
+use charts::INDIVIDUALS;
 use charts::Refusal;
 use sets::RuleSet;
 ghost use mathlib.Core.Path.{_≡_};
+ghost use mathlib.Core.Bool.{false};
 ghost use Prim.Native.Nat.{_+_};
 ghost use lib.ListN.{length};
 ghost use Rattle.laws.specs.Refusals.{firstOf};
@@ -17,37 +19,39 @@ ghost use Rattle.laws.specs.Front.{atFront};
 ghost use Rattle.rules.specs.Terms.{under};
 ghost use Rattle.rules.specs.Marking.{marksOf, answerOf};
 ghost use Rattle.floats.specs.Values.{plusZero};
-ghost use Rattle.evaluating.specs.Asked.{asked};
+ghost use Rattle.evaluating.specs.Asked.{asked, interrupted};
 ghost use Rattle.evaluating.specs.Series.{seriesOf};
-ghost use Rattle.evaluating.specs.Evaluating.{evaluated, noRoom, seriesMarks, numberOf, evaluateOf, lentAfter};
+ghost use Rattle.evaluating.specs.Evaluating.{evaluated, positionsWrong, noRoom, seriesMarks, numberOf, evaluateOf, lentAfter};
 ghost use Rattle.evaluating.specs.Steps.{ahead};
 
-// Marks both series.
+// Marks both series; `moving` says whether that of the dispersion is one of moving ranges.
 fn mark_both(
     set: RuleSet,
     w: Measured,
+    stops: &[usize],
+    moving: bool,
     main: &[f64],
     dispersion: &[f64],
     main_marks: &mut [u16],
     dispersion_marks: &mut [u16],
 ) -> Evaluation
-    requires { ⌜ (answerOf (under (w .main)) (set .mask) (now main) (length (now «main_marks»)) ≡ 0)
-        × (answerOf (under (w .dispersion)) (set .mask) (now dispersion) (length (now «dispersion_marks»)) ≡ 0) ⌝ }
+    requires { ⌜ (answerOf (under (w .main) (now stops) false) (set .mask) (now main) (length (now «main_marks»)) ≡ 0)
+        × (answerOf (under (w .dispersion) (now stops) moving) (set .mask) (now dispersion) (length (now «dispersion_marks»)) ≡ 0) ⌝ }
     ensures answer { λ r. ⌜ r ≡ record {
       main = w .main;
       dispersion = w .dispersion;
-      marks = numberOf (marksOf (under (w .main)) (set .mask) (now (main .entry)))
-          + numberOf (marksOf (under (w .dispersion)) (set .mask) (now (dispersion .entry)));
+      marks = numberOf (marksOf (under (w .main) (now (stops .entry)) false) (set .mask) (now (main .entry)))
+          + numberOf (marksOf (under (w .dispersion) (now (stops .entry)) moving) (set .mask) (now (dispersion .entry)));
     } ⌝ }
     ensures main_marks { λ r. ⌜ now («main_marks» .exit)
-        ≡ atFront (marksOf (under (w .main)) (set .mask) (now (main .entry))) (now («main_marks» .entry)) ⌝ }
+        ≡ atFront (marksOf (under (w .main) (now (stops .entry)) false) (set .mask) (now (main .entry))) (now («main_marks» .entry)) ⌝ }
     ensures dispersion_marks { λ r. ⌜ now («dispersion_marks» .exit)
-        ≡ atFront (marksOf (under (w .dispersion)) (set .mask) (now (dispersion .entry))) (now («dispersion_marks» .entry)) ⌝ }
+        ≡ atFront (marksOf (under (w .dispersion) (now (stops .entry)) moving) (set .mask) (now (dispersion .entry))) (now («dispersion_marks» .entry)) ⌝ }
 {
     let a = w.main;
     let b = w.dispersion;
-    let n = marks::mark(main, a, set, main_marks);
-    let k = marks::mark(dispersion, b, set, dispersion_marks);
+    let n = marks::mark(main, stops, false, a, set, main_marks);
+    let k = marks::mark(dispersion, stops, moving, b, set, dispersion_marks);
     let marks = n + k;
     Evaluation {
         main: a,
@@ -60,14 +64,15 @@ fn mark_both(
 pub fn evaluate(
     c: Chart,
     values: &[f64],
+    positions: &[usize],
     main: &mut [f64],
     dispersion: &mut [f64],
     main_marks: &mut [u16],
     dispersion_marks: &mut [u16],
 ) -> Evaluated
-    requires { ⌜ firstOf (ahead (asked c (now values)) (noRoom c (length (now main)) (length (now dispersion))
-        (length (now «main_marks»)) (length (now «dispersion_marks»)))) 0 ≡ 0 ⌝ }
-    ensures answer { λ r. ⌜ evaluated r ≡ evaluateOf (asked c (now (values .entry)))
+    requires { ⌜ firstOf (ahead (asked c (now values)) (positionsWrong c (now positions))
+        (noRoom c (length (now main)) (length (now dispersion)) (length (now «main_marks»)) (length (now «dispersion_marks»)))) 0 ≡ 0 ⌝ }
+    ensures answer { λ r. ⌜ evaluated r ≡ evaluateOf (interrupted (asked c (now (values .entry))) (now (positions .entry)))
         (noRoom c (length (now (main .entry))) (length (now (dispersion .entry)))
         (length (now («main_marks» .entry))) (length (now («dispersion_marks» .entry)))) ⌝ }
     ensures main { λ r. ⌜ now (main .exit)
@@ -75,9 +80,9 @@ pub fn evaluate(
     ensures dispersion { λ r. ⌜ now (dispersion .exit)
         ≡ lentAfter (evaluated r .number) plusZero (seriesOf (asked c (now (values .entry))) 1) (now (dispersion .entry)) ⌝ }
     ensures main_marks { λ r. ⌜ now («main_marks» .exit)
-        ≡ lentAfter (evaluated r .number) 0 (seriesMarks (asked c (now (values .entry))) 0) (now («main_marks» .entry)) ⌝ }
+        ≡ lentAfter (evaluated r .number) 0 (seriesMarks (interrupted (asked c (now (values .entry))) (now (positions .entry))) 0) (now («main_marks» .entry)) ⌝ }
     ensures dispersion_marks { λ r. ⌜ now («dispersion_marks» .exit)
-        ≡ lentAfter (evaluated r .number) 0 (seriesMarks (asked c (now (values .entry))) 1) (now («dispersion_marks» .entry)) ⌝ }
+        ≡ lentAfter (evaluated r .number) 0 (seriesMarks (interrupted (asked c (now (values .entry))) (now (positions .entry))) 1) (now («dispersion_marks» .entry)) ⌝ }
 {
     let n = series::points_in(c, 0);
     let k = series::points_in(c, 1);
@@ -87,9 +92,13 @@ pub fn evaluate(
         return Evaluated::Refused(Refusal::Overflow);
     }
     let set = c.set;
+    let counted = c.stops;
+    let moving = c.kind == INDIVIDUALS;
     Evaluated::Done(mark_both(
         set,
         w,
+        &positions[0..counted],
+        moving,
         &main[0..n],
         &dispersion[0..k],
         main_marks,

@@ -6,13 +6,24 @@ use charts::Refusal;
 ghost use mathlib.Core.Path.{_≡_};
 ghost use Rattle.laws.specs.Refusals.{firstOf};
 ghost use Rattle.evaluating.specs.Asked.{asked};
-ghost use Rattle.evaluating.specs.Evaluating.{tooFew, noRoom};
+ghost use Rattle.evaluating.specs.Evaluating.{positionsWrong, tooFew, noRoom};
 ghost use Rattle.evaluating.specs.Steps.{ahead, tested};
 
 // What the tests find.
 pub enum Tested {
     Passed,
     Refused(Refusal),
+}
+
+// Whether the record counts more stops than there are positions, or these are no stops of the chart.
+pub fn positions_wrong(c: Chart, positions: &[usize]) -> bool
+    ensures { λ r. ⌜ r ≡ positionsWrong c (now (positions .entry)) ⌝ }
+{
+    let n = c.stops;
+    if positions.len() < n {
+        return true;
+    }
+    stops::wrong(&positions[0..n], false, c.count)
 }
 
 fn too_few(c: Chart) -> bool
@@ -39,12 +50,15 @@ pub fn no_room(
     (main < n) | (main_marks < n) | (dispersion < k) | (dispersion_marks < k)
 }
 
-// 14, 8, 6 where a lent slice is too short, and 3.
-pub fn check(c: Chart, values: &[f64], short: bool) -> Tested
-    ensures { λ r. ⌜ tested r ≡ firstOf (ahead (asked c (now (values .entry))) short) 0 ⌝ }
+// 14, 15 where positions are wrong, 8, 6 where a lent slice is too short, and 3.
+pub fn check(c: Chart, values: &[f64], wrong: bool, short: bool) -> Tested
+    ensures { λ r. ⌜ tested r ≡ firstOf (ahead (asked c (now (values .entry))) wrong short) 0 ⌝ }
 {
     if c.record_wrong(values.len()) {
         return Tested::Refused(Refusal::Record);
+    }
+    if wrong {
+        return Tested::Refused(Refusal::Stops);
     }
     if too_few(c) {
         return Tested::Refused(Refusal::TooFew);

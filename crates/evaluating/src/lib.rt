@@ -15,7 +15,7 @@ use rules::Limits;
 ghost use mathlib.Core.Path.{_≡_};
 ghost use lib.ListN.{length};
 ghost use Rattle.floats.specs.Values.{plusZero};
-ghost use Rattle.evaluating.specs.Asked.{asked};
+ghost use Rattle.evaluating.specs.Asked.{asked, interrupted};
 ghost use Rattle.evaluating.specs.Series.{seriesOf, lengths, pointsOf};
 ghost use Rattle.evaluating.specs.Evaluating.{evaluated, noRoom, evaluateOf, seriesMarks, lentAfter};
 ghost use Rattle.evaluating.specs.Sigma.{figured, estimated, sigmaHatOf, sigmaHatDfOf, estimateOf};
@@ -163,22 +163,28 @@ pub fn points(chart: Chart) -> Lengths
 /// series first, and gives their limits and the number of marks. The dispersion series has the moving ranges (one
 /// point fewer than the main one), ranges or deviations. Entries past the last one written are untouched.
 ///
-/// Refuses, in this order: a record that is no chart (14, `Record`), no subgroup or fewer than 2 observations
-/// (8, `TooFew`), a slice too short for its series (6, `TooShort`), stored values that are not all finite (3, `NotFinite`), points or
-/// limits that are not all finite (7, `Overflow`). At 7 all four slices are zero throughout; at any other refusal they
-/// are as they came.
+/// Of `positions` the first are the stops, as many as the chart counts: the belt stood still before each of them. A window
+/// that reaches over a stop does not show its pattern, and only windows of length one hold a moving range that straddles
+/// one. The series and the limits are as without stops.
+///
+/// Refuses, in this order: a record that is no chart (14, `Record`), a chart that counts more stops than there are
+/// positions, or stops that do not rise strictly within 1 to the points of the main series less one (15, `Stops`), no
+/// subgroup or fewer than 2 observations (8, `TooFew`), a slice too short for its series (6, `TooShort`), stored values that
+/// are not all finite (3, `NotFinite`), points or limits that are not all finite (7, `Overflow`). At 7 all four slices are
+/// zero throughout; at any other refusal they are as they came.
 ///
 /// A chart of kind 1 with three observations of 0.1 and the set shewhart has the limits 0.10000000000000002 three
 /// times over and 3 marks: its points lie below them.
 pub fn evaluate(
     chart: Chart,
     values: &[f64],
+    positions: &[usize],
     main: &mut [f64],
     dispersion: &mut [f64],
     main_marks: &mut [u16],
     dispersion_marks: &mut [u16],
 ) -> Evaluated
-    ensures answer { λ r. ⌜ evaluated r ≡ evaluateOf (asked chart (now (values .entry)))
+    ensures answer { λ r. ⌜ evaluated r ≡ evaluateOf (interrupted (asked chart (now (values .entry))) (now (positions .entry)))
         (noRoom chart (length (now (main .entry))) (length (now (dispersion .entry)))
         (length (now («main_marks» .entry))) (length (now («dispersion_marks» .entry)))) ⌝ }
     ensures main { λ r. ⌜ now (main .exit)
@@ -186,9 +192,9 @@ pub fn evaluate(
     ensures dispersion { λ r. ⌜ now (dispersion .exit)
         ≡ lentAfter (evaluated r .number) plusZero (seriesOf (asked chart (now (values .entry))) 1) (now (dispersion .entry)) ⌝ }
     ensures main_marks { λ r. ⌜ now («main_marks» .exit)
-        ≡ lentAfter (evaluated r .number) 0 (seriesMarks (asked chart (now (values .entry))) 0) (now («main_marks» .entry)) ⌝ }
+        ≡ lentAfter (evaluated r .number) 0 (seriesMarks (interrupted (asked chart (now (values .entry))) (now (positions .entry))) 0) (now («main_marks» .entry)) ⌝ }
     ensures dispersion_marks { λ r. ⌜ now («dispersion_marks» .exit)
-        ≡ lentAfter (evaluated r .number) 0 (seriesMarks (asked chart (now (values .entry))) 1) (now («dispersion_marks» .entry)) ⌝ }
+        ≡ lentAfter (evaluated r .number) 0 (seriesMarks (interrupted (asked chart (now (values .entry))) (now (positions .entry))) 1) (now («dispersion_marks» .entry)) ⌝ }
 {
     let short = checks::no_room(
         chart,
@@ -197,11 +203,13 @@ pub fn evaluate(
         main_marks.len(),
         dispersion_marks.len(),
     );
-    match checks::check(chart, values, short) {
+    let wrong = checks::positions_wrong(chart, positions);
+    match checks::check(chart, values, wrong, short) {
         Tested::Refused(why) => Evaluated::Refused(why),
         Tested::Passed => checked::evaluate(
             chart,
             values,
+            positions,
             main,
             dispersion,
             main_marks,

@@ -25,12 +25,19 @@ fn count(marks: &[u16]) -> usize
 }
 
 // Marks the points of a series that marking does not refuse, and gives the number of marks.
-pub fn mark(points: &[f64], limits: Limits, set: RuleSet, marks: &mut [u16]) -> usize
-    requires { ⌜ answerOf (under limits) (set .mask) (now points) (length (now marks)) ≡ 0 ⌝ }
-    ensures number { λ r. ⌜ (r ≡ numberOf (marksOf (under limits) (set .mask) (now (points .entry)))) × (r ≤ 65536) ⌝ }
-    ensures marks { λ r. ⌜ now (marks .exit) ≡ atFront (marksOf (under limits) (set .mask) (now (points .entry))) (now (marks .entry)) ⌝ }
+pub fn mark(
+    points: &[f64],
+    stops: &[usize],
+    moving: bool,
+    limits: Limits,
+    set: RuleSet,
+    marks: &mut [u16],
+) -> usize
+    requires { ⌜ answerOf (under limits (now stops) moving) (set .mask) (now points) (length (now marks)) ≡ 0 ⌝ }
+    ensures number { λ r. ⌜ (r ≡ numberOf (marksOf (under limits (now (stops .entry)) moving) (set .mask) (now (points .entry)))) × (r ≤ 65536) ⌝ }
+    ensures marks { λ r. ⌜ now (marks .exit) ≡ atFront (marksOf (under limits (now (stops .entry)) moving) (set .mask) (now (points .entry))) (now (marks .entry)) ⌝ }
 {
     let n = points.len();
-    rules::mark(points, limits, set, marks);
+    rules::mark(points, stops, moving, limits, set, marks);
     count(&marks[0..n])
 }

@@ -16,8 +16,21 @@ use borrow.Author.Needs.{needs}
 use Rattle.evaluating.proofs.checks.check.Statement.{statement}
 use Rattle.evaluating.proofs.checks.check.Tie as tie
 
-record-wrong-requires : tie.Need-record-wrong-requires
-record-wrong-requires c κs = search needs
+-- 14 does not apply
+right : (c : tie.Else1) → recordWrong (c .before .before .before .args .c) (length (c .before .before .before .args .values .now)) ≡ false
+right c = told (c .before .record-wrong .ensures) (c .if1 .left)
+
+-- nor does 8
+enough : (c : tie.Else3) → tooFew (c .before .before .before .before .before .before .args .c) ≡ false
+enough c = told (c .before .too-few .ensures) (c .if3 .left)
+
+-- the stored values, as the code cuts them out
+cut : (c : tie.After-all-finite) → c .all-finite .result ≡ allFinite (stored (asked (c .before .before .before .before .before .before .before .before .before .before .args .c) (c .before .before .before .before .before .before .before .before .before .before .args .values .now)))
+cut c =
+    let a = c .before .before .before .before .before .before .before .before .before .before .args in
+    c .all-finite .ensures ∙ ap (λ (n : ℕ). allFinite (take n (a .values .now))) (sub-zero (a .c .count * a .c .size))
+
+-- ---- the needs
 
 returns : tie.Need-returns
 returns c =
@@ -25,65 +38,46 @@ returns c =
     let wrong : recordWrong (args .c) (length (args .values .now)) ≡ true = search (needs, told) in
     sym (refused _ _ _ _ wrong)
 
--- 14 does not apply
-right : (c : tie.Else1) → recordWrong (c .before .before .before .args .c) (length (c .before .before .before .args .values .now)) ≡ false
-right c = told (c .before .record-wrong .ensures) (c .if1 .left)
-
--- nor does 8
-enough : (c : tie.Else2) → tooFew (c .before .before .before .before .before .args .c) ≡ false
-enough c = told (c .before .too-few .ensures) (c .if2 .left)
-
--- the stored values, as the code cuts them out
-cut : (c : tie.After-all-finite) → c .all-finite .result ≡ allFinite (stored (asked (c .before .before .before .before .before .before .before .before .before .args .c) (c .before .before .before .before .before .before .before .before .before .args .values .now)))
-cut c = c .all-finite .ensures ∙ ap (λ (n : ℕ). allFinite (take n (c .before .before .before .before .before .before .before .before .before .args .values .now))) (sub-zero (c .before .before .before .before .before .before .before .before .before .args .c .count * c .before .before .before .before .before .before .before .before .before .args .c .size))
-
-too-few-requires : tie.Need-too-few-requires
-too-few-requires c κs = search needs
-
 returns-2 : tie.Need-returns-2
-returns-2 c = sym (passed _ _ _ _ (right (c .before .before)) ∙ refused _ _ _ _ (told (c .before .too-few .ensures) (c .if2 .taken)))
+returns-2 c = sym (passed _ _ _ _ (right (c .before)) ∙ refused _ _ _ _ (c .if2 .taken))
 
 returns-3 : tie.Need-returns-3
-returns-3 c = sym (passed _ _ _ _ (right (c .before .before .before)) ∙ passed _ _ _ _ (enough (c .before)) ∙ refused _ _ _ _ (c .if3 .taken))
-
-mul-end : tie.Need-mul-end
-mul-end c = omega (arith, held (c .before .before .before .before .before .before .before .args .c) (length (c .before .before .before .before .before .before .before .args .values .now)) (right (c .before .before .before .before)) .figures .all)
-
-sub-all-finite : tie.Need-sub-all-finite
-sub-all-finite c = search needs
-
-part-all-finite-start : tie.Need-part-all-finite-start
-part-all-finite-start c = search needs
-
-part-all-finite-end : tie.Need-part-all-finite-end
-part-all-finite-end c = held (c .before .before .before .before .before .before .before .args .c) (length (c .before .before .before .before .before .before .before .args .values .now)) (right (c .before .before .before .before)) .within
-
-all-finite-requires : tie.Need-all-finite-requires
-all-finite-requires c κs = search needs
+returns-3 c = sym (passed _ _ _ _ (right (c .before .before .before)) ∙ passed _ _ _ _ (c .before .before .if2 .left) ∙ refused _ _ _ _ (told (c .before .too-few .ensures) (c .if3 .taken)))
 
 returns-4 : tie.Need-returns-4
 returns-4 c =
-    sym (passed _ _ _ _ (right (c .before .before .before .before .before .before .before)) ∙ passed _ _ _ _ (enough (c .before .before .before .before .before)) ∙ passed _ _ _ _ (c .before .before .before .before .if3 .left)
-    ∙ refused _ _ _ _ (told-not (cut (c .before)) (c .if4 .taken)))
+    sym (passed _ _ _ _ (right (c .before .before .before .before)) ∙ passed _ _ _ _ (c .before .before .before .if2 .left) ∙ passed _ _ _ _ (enough (c .before)) ∙ refused _ _ _ _ (c .if4 .taken))
+
+mul-end : tie.Need-mul-end
+mul-end c = omega (arith, held (c .before .before .before .before .before .before .before .before .args .c) (length (c .before .before .before .before .before .before .before .before .args .values .now)) (right (c .before .before .before .before .before)) .figures .all)
+
+part-all-finite-end : tie.Need-part-all-finite-end
+part-all-finite-end c = held (c .before .before .before .before .before .before .before .before .args .c) (length (c .before .before .before .before .before .before .before .before .args .values .now)) (right (c .before .before .before .before .before)) .within
 
 returns-5 : tie.Need-returns-5
 returns-5 c =
-    sym (passed _ _ _ _ (right (c .before .before .before .before .before .before .before)) ∙ passed _ _ _ _ (enough (c .before .before .before .before .before)) ∙ passed _ _ _ _ (c .before .before .before .before .if3 .left)
-    ∙ passed _ _ _ _ (told-not (cut (c .before)) (c .if4 .left)) ∙ none-applies _)
+    sym (passed _ _ _ _ (right (c .before .before .before .before .before .before .before .before)) ∙ passed _ _ _ _ (c .before .before .before .before .before .before .before .if2 .left) ∙ passed _ _ _ _ (enough (c .before .before .before .before .before)) ∙ passed _ _ _ _ (c .before .before .before .before .if4 .left)
+    ∙ refused _ _ _ _ (told-not (cut (c .before)) (c .if5 .taken)))
+
+returns-6 : tie.Need-returns-6
+returns-6 c =
+    sym (passed _ _ _ _ (right (c .before .before .before .before .before .before .before .before)) ∙ passed _ _ _ _ (c .before .before .before .before .before .before .before .if2 .left) ∙ passed _ _ _ _ (enough (c .before .before .before .before .before)) ∙ passed _ _ _ _ (c .before .before .before .before .if4 .left)
+    ∙ passed _ _ _ _ (told-not (cut (c .before)) (c .if5 .left)) ∙ none-applies _)
 
 pub check-spec : {M : Type 1} → statement M
 check-spec =
     tie.close
     (tie.spec
-    record-wrong-requires
+    (λ c κs. search needs)
     returns
-    too-few-requires
     returns-2
+    (λ c κs. search needs)
     returns-3
-    mul-end
-    sub-all-finite
-    part-all-finite-start
-    part-all-finite-end
-    all-finite-requires
     returns-4
-    returns-5)
+    mul-end
+    (λ c. search needs)
+    (λ c. search needs)
+    part-all-finite-end
+    (λ c κs. search needs)
+    returns-5
+    returns-6)
