@@ -20,34 +20,40 @@ use Rattle.sets.specs.declared.Test.{Test}
 use Rattle.sets.specs.declared.Found.the-variants as finding
 use Rattle.sets.specs.Sets.{bitOf, tests, testOf, testAt, has, setOf}
 use Rattle.sets.proofs.Sets.{agree, bitOf-lt, was-found, was-nothing, has-setOf, and-setOf}
-use Rattle.rules.specs.Terms.{Terms}
+use Rattle.stops.specs.Stops.{since, stopsWrong, mainPoints}
+use Rattle.stops.specs.Cuts.{unbroken}
+use Rattle.stops.proofs.Rising.{none-wrong}
+use Rattle.stops.proofs.Cuts.{no-stops}
+use Rattle.rules.specs.declared.Limits.{Limits}
+use Rattle.rules.specs.Terms.{Terms, under}
 use Rattle.rules.specs.Lines.{linesOf}
 use Rattle.rules.specs.Tests.{window, shows}
 use Rattle.floats.specs.Finite.{finite, allFinite}
 use Rattle.rules.specs.Finite.{finiteLimits}
-use Rattle.rules.specs.Marking.{newestFirst, stands, marksAt, marksOf, answerOf, marksAfter}
+use Rattle.rules.specs.Marking.{newestFirst, stands, marksAt, cutsOf, marksOf, answerOf, marksAfter}
 use Rattle.evidence.specs.Evidence.{shownAt}
 use Rattle.evidence.specs.Steps.{showsAlone, spanAt}
 use Rattle.rules.proofs.Columns.{window-most}
+use Rattle.rules.proofs.Stopped.{length-since, take-newest}
 use Rattle.rules.proofs.Meaning.{length-marks, marks-at}
 use Rattle.rules.proofs.Accepted.{room-enough, only-finite}
 
 -- ---- a window as a series of its own
 
-pub length-newest : (values : List Float) (k : ℕ) → length (newestFirst values k) ≡ k
+pub length-newest : (values : List Float) (k : ℕ) → length (newestFirst unbroken values k) ≡ k
 unfolding newestFirst
 length-newest values zero = refl
 length-newest values (suc k) = ap suc (length-newest values k)
 
-newest-part : (values : List Float) (s n k : ℕ) → k ≤ n → newestFirst (take n (drop s values)) k ≡ take k (newestFirst values (s + k))
+newest-part : (values : List Float) (s n k : ℕ) → k ≤ n → newestFirst unbroken (take n (drop s values)) k ≡ take k (newestFirst unbroken values (s + k))
 unfolding newestFirst
 newest-part values s n zero h = refl
 newest-part values s n (suc k) h =
     ap₂ _∷_ (getD-take n (drop s values) k nan h ∙ getD-drop s values k nan) (newest-part values s n k (omega arith))
-    ∙ ap (λ (m : ℕ). take (suc k) (newestFirst values m)) (sym (add-suc s k))
+    ∙ ap (λ (m : ℕ). take (suc k) (newestFirst unbroken values m)) (sym (add-suc s k))
 
 -- values are finite in either order of time
-newest-finite : (values : List Float) (k : ℕ) → k ≤ length values → allFinite (newestFirst values k) ≡ allFinite (take k values)
+newest-finite : (values : List Float) (k : ℕ) → k ≤ length values → allFinite (newestFirst unbroken values k) ≡ allFinite (take k values)
 unfolding newestFirst allFinite every
 newest-finite values zero h = refl
 newest-finite values (suc k) h =
@@ -66,17 +72,19 @@ newest-finite values (suc k) h =
 abbrev pub partTo : ℕ → ℕ → List Float → List Float
 partTo n at values = take n (drop (suc at - n) values)
 
--- the part of a window, newest first, is the window
-module _ (values : List Float) (at n : ℕ) (fits : n ≤ suc at) where
-  part-newest : newestFirst (partTo n at values) n ≡ take n (newestFirst values (suc at))
+-- the part of a window that no cut parts, newest first, is the window
+module _ (cut : ℕ → Bool) (values : List Float) (at n : ℕ) (next : n ≤ suc at - since cut at) where
+  part-newest : newestFirst unbroken (partTo n at values) n ≡ take n (newestFirst cut values (suc at))
   part-newest =
       let end : suc at - n + n ≡ suc at = omega arith in
-      newest-part values (suc at - n) n n (omega arith) ∙ ap (λ (m : ℕ). take n (newestFirst values m)) end
+      newest-part values (suc at - n) n n (omega arith)
+      ∙ ap (λ (m : ℕ). take n (newestFirst unbroken values m)) end
+      ∙ sym (take-newest cut values at n next)
 
   pub length-part : at < length values → length (partTo n at values) ≡ n
   length-part h = length-take-le n (drop (suc at - n) values) (omega (arith, length-drop (suc at - n) values))
 
-  part-finite : at < length values → allFinite (take n (newestFirst values (suc at))) ≡ allFinite (partTo n at values)
+  part-finite : at < length values → allFinite (take n (newestFirst cut values (suc at))) ≡ allFinite (partTo n at values)
   part-finite h =
       let part = partTo n at values in
       ap allFinite (sym part-newest)
@@ -84,34 +92,34 @@ module _ (values : List Float) (at n : ℕ) (fits : n ≤ suc at) where
       ∙ ap allFinite (take-all n part (omega (arith, length-part h)))
 
 -- a window of the test's own length shows its pattern exactly where the test stands there
-module _ (terms : Terms) (t : Test) where
-  stands-alone : (values : List Float) → stands (linesOf (terms .limits)) (newestFirst values (window t)) t ≡ shows t (linesOf (terms .limits)) (newestFirst values (window t))
+module _ (limits : Limits) (t : Test) where
+  stands-alone : (values : List Float) → stands (linesOf limits) (newestFirst unbroken values (window t)) t ≡ shows t (linesOf limits) (newestFirst unbroken values (window t))
   unfolding stands
   stands-alone values =
-      let w = newestFirst values (window t) in
+      let w = newestFirst unbroken values (window t) in
       let long : length w ≡ window t = length-newest values (window t) in
-      ap₂ (λ (b : Bool) (x : List Float). b && shows t (linesOf (terms .limits)) x) (le-leb (window t) (length w) (omega (arith, long)))
+      ap₂ (λ (b : Bool) (x : List Float). b && shows t (linesOf limits) x) (le-leb (window t) (length w) (omega (arith, long)))
       (take-all (window t) w (omega (arith, long)))
 
-  pub stands-behind : (values : List Float) (at : ℕ) → window t ≤ suc at
-      → stands (linesOf (terms .limits)) (newestFirst values (suc at)) t ≡ shows t (linesOf (terms .limits)) (newestFirst (partTo (window t) at values) (window t))
+  pub stands-behind : (cut : ℕ → Bool) (values : List Float) (at : ℕ) → window t ≤ suc at - since cut at
+      → stands (linesOf limits) (newestFirst cut values (suc at)) t ≡ shows t (linesOf limits) (newestFirst unbroken (partTo (window t) at values) (window t))
   unfolding stands
-  stands-behind values at h =
-      let past = newestFirst values (suc at) in
-      ap (λ (b : Bool). b && shows t (linesOf (terms .limits)) (take (window t) past)) (le-leb (window t) (length past) (omega (arith, length-newest values (suc at))))
-      ∙ ap (λ (w : List Float). shows t (linesOf (terms .limits)) w) (sym (part-newest values at (window t) h))
+  stands-behind cut values at h =
+      let past = newestFirst cut values (suc at) in
+      ap (λ (b : Bool). b && shows t (linesOf limits) (take (window t) past)) (le-leb (window t) (length past) (omega (arith, length-since cut values at)))
+      ∙ ap (λ (w : List Float). shows t (linesOf limits) w) (sym (part-newest cut values at (window t) h))
 
   -- ---- the mark of a set with this test alone
 
   pub mark-alone : (values : List Float) (i : ℕ) → suc i ≡ window t
-      → not (eqb (marksAt (linesOf (terms .limits)) (2 ^ bitOf t) values i) 0) ≡ shows t (linesOf (terms .limits)) (newestFirst values (window t))
+      → not (eqb (marksAt unbroken (linesOf limits) (2 ^ bitOf t) values i) 0) ≡ shows t (linesOf limits) (newestFirst unbroken values (window t))
   unfolding marksAt
   mark-alone values i e =
-      let p : Test → Bool = stands (linesOf (terms .limits)) (newestFirst values (suc i)) in
+      let p : Test → Bool = stands (linesOf limits) (newestFirst unbroken values (suc i)) in
       ap (λ (m : ℕ). not (eqb m 0)) (sym (and-setOf (2 ^ bitOf t) p) ∙ and-comm (2 ^ bitOf t) (setOf p))
       ∙ test-pow (setOf p) (bitOf t)
       ∙ unfold has in has-setOf p t
-      ∙ ap (λ (k : ℕ). stands (linesOf (terms .limits)) (newestFirst values k) t) e
+      ∙ ap (λ (k : ℕ). stands (linesOf limits) (newestFirst unbroken values k) t) e
       ∙ stands-alone values
 
 -- ---- the window marked as a series of its own
@@ -124,16 +132,20 @@ window-least t = leb-true 1 (window t) (agree (λ (u : Test). leb 1 (window u)) 
 pub part-bounds : (t : Test) (part : List Float) → length part ≡ window t → (1 ≤ length part) × (length part ≤ 15)
 part-bounds t part long = (omega (arith, window-least t), omega (arith, window-most t))
 
-module _ (terms : Terms) (t : Test) (part : List Float) (long : length part ≡ window t) (set : ℕ) (alone : set ≡ 2 ^ bitOf t) where
+module _ (limits : Limits) (t : Test) (part : List Float) (long : length part ≡ window t) (set : ℕ) (alone : set ≡ 2 ^ bitOf t) where
+  -- by itself it has no stops
+  abbrev terms : Terms
+  terms = under limits [] false
+
   -- only the finite decide whether it is refused
-  by-finite : answerOf terms set part 15 ≡ cond (finiteLimits (terms .limits) && allFinite part) 0 3
+  by-finite : answerOf terms set part 15 ≡ cond (finiteLimits limits && allFinite part) 0 3
   by-finite =
       let small : 2 ^ bitOf t < 2 ^ 9 = pow-lt (bitOf-lt t) in
       let few = part-bounds t part long .1 in
-      room-enough terms set part 15 (λ h. few) ∙ only-finite terms set part (omega arith) (omega arith)
+      room-enough terms set part 15 (λ h. few) ∙ only-finite terms set part (omega arith) (none-wrong (length part)) (omega arith)
 
-  pub refused-alone : (answerOf terms set part 15 ≡ 0 → ⊥) → false ≡ showsAlone terms t part
-  refused-alone h = by (finiteLimits (terms .limits)) (allFinite part) _ by-finite
+  pub refused-alone : (answerOf terms set part 15 ≡ 0 → ⊥) → false ≡ showsAlone limits t part
+  refused-alone h = by (finiteLimits limits) (allFinite part) _ by-finite
     where
       by : (f a x : Bool) → answerOf terms set part 15 ≡ cond (f && a) 0 3 → false ≡ (f && (a && x))
       by true true x e = absurd (h e)
@@ -141,7 +153,7 @@ module _ (terms : Terms) (t : Test) (part : List Float) (long : length part ≡ 
       by false a x e = refl
 
   last-mark : answerOf terms set part 15 ≡ 0
-      → not (eqb (getD (marksAfter terms set part (replicate 15 0)) (length part - 1) 0) 0) ≡ shows t (linesOf (terms .limits)) (newestFirst part (length part))
+      → not (eqb (getD (marksAfter terms set part (replicate 15 0)) (length part - 1) 0) 0) ≡ shows t (linesOf limits) (newestFirst unbroken part (length part))
   unfolding marksAfter
   last-mark e =
       let old = replicate {A = ℕ} 15 0 in
@@ -152,13 +164,13 @@ module _ (terms : Terms) (t : Test) (part : List Float) (long : length part ≡ 
       let within : i < length marks = omega (arith, length-marks terms set part) in
       ap (λ (b : Bool). not (eqb (getD (cond b (atFront marks old) old) i 0) 0)) (eq-eqb _ _ e)
       ∙ ap (λ (m : ℕ). not (eqb m 0)) (List·getD-append marks (drop (length marks) old) 0 i within ∙ marks-at terms set part i (omega arith))
-      ∙ ap (λ (k : ℕ). not (eqb (marksAt (linesOf (terms .limits)) k part i) 0)) alone
-      ∙ mark-alone terms t part i last
-      ∙ ap (λ (k : ℕ). shows t (linesOf (terms .limits)) (newestFirst part k)) (sym long)
+      ∙ ap₂ (λ (cut : ℕ → Bool) (k : ℕ). not (eqb (marksAt cut (linesOf limits) k part i) 0)) (no-stops false) alone
+      ∙ mark-alone limits t part i last
+      ∙ ap (λ (k : ℕ). shows t (linesOf limits) (newestFirst unbroken part k)) (sym long)
 
   pub marked-alone : answerOf terms set part 15 ≡ 0
-      → not (eqb (getD (marksAfter terms set part (replicate 15 0)) (length part - 1) 0) 0) ≡ showsAlone terms t part
-  marked-alone done = by (finiteLimits (terms .limits)) (allFinite part) _ _ by-finite (last-mark done)
+      → not (eqb (getD (marksAfter terms set part (replicate 15 0)) (length part - 1) 0) 0) ≡ showsAlone limits t part
+  marked-alone done = by (finiteLimits limits) (allFinite part) _ _ by-finite (last-mark done)
     where
       by : (f a x y : Bool) → answerOf terms set part 15 ≡ cond (f && a) 0 3 → y ≡ x → y ≡ (f && (a && x))
       by true true x y e is = is
@@ -176,16 +188,21 @@ module _ (series : List Float) (terms : Terms) (at bit : ℕ) where
   unfolding shownAt tests
   no-such-test e = simp (le-ltb bit 9 (was-nothing bit e), and-false)
 
-  shown-by-window : at < length series → bit < 9 → window (testOf bit) ≤ suc at
+  pub stops-are-wrong : stopsWrong (mainPoints (terms .moving) (length series)) (terms .stops) ≡ true → shownAt series terms at bit ≡ false
+  unfolding shownAt
+  stops-are-wrong e = simp (e, and-false)
+
+  shown-by-window : at < length series → stopsWrong (mainPoints (terms .moving) (length series)) (terms .stops) ≡ false → bit < 9
+      → window (testOf bit) ≤ suc at - since (cutsOf terms) at
       → shownAt series terms at bit
       ≡ (finiteLimits (terms .limits)
       && (allFinite (partTo (window (testOf bit)) at series)
-      && shows (testOf bit) (linesOf (terms .limits)) (newestFirst (partTo (window (testOf bit)) at series) (window (testOf bit)))))
+      && shows (testOf bit) (linesOf (terms .limits)) (newestFirst unbroken (partTo (window (testOf bit)) at series) (window (testOf bit)))))
   unfolding shownAt tests
-  shown-by-window h k w =
-      simp (lt-ltb at (length series) h, lt-ltb bit 9 k)
-      (ap₂ (λ (a b : Bool). finiteLimits (terms .limits) && (a && b)) (part-finite series at (window (testOf bit)) w h)
-      (stands-behind terms (testOf bit) series at w))
+  shown-by-window h g k w =
+      simp (lt-ltb at (length series) h, lt-ltb bit 9 k, g)
+      (ap₂ (λ (a b : Bool). finiteLimits (terms .limits) && (a && b)) (part-finite (cutsOf terms) series at (window (testOf bit)) w h)
+      (stands-behind (terms .limits) (testOf bit) (cutsOf terms) series at w))
 
   pub no-span : shownAt series terms at bit ≡ false → spanAt series terms at bit ≡ record { start = 0; end = 0 }
   unfolding spanAt
@@ -199,25 +216,26 @@ module _ (series : List Float) (terms : Terms) (at bit : ℕ) where
     longs : n ≡ window (testOf bit)
     longs = long ∙ ap window (sym same)
 
-    pub no-such-window : at + 1 < n → shownAt series terms at bit ≡ false
+    pub no-such-window : suc at - since (cutsOf terms) at < n → shownAt series terms at bit ≡ false
     unfolding shownAt stands
     no-such-window h =
-        let past = newestFirst series (suc at) in
-        simp (lt-leb (window (testOf bit)) (length past) (omega (arith, longs, length-newest series (suc at))), and-false)
+        let past = newestFirst (cutsOf terms) series (suc at) in
+        simp (lt-leb (window (testOf bit)) (length past) (omega (arith, longs, length-since (cutsOf terms) series at)), and-false)
 
-    pub shown-by-part : at < length series → n ≤ at + 1
-        → showsAlone terms t (take (at + 1 - (at + 1 - n)) (drop (at + 1 - n) series)) ≡ shownAt series terms at bit
-    shown-by-part h w =
+    pub shown-by-part : at < length series → stopsWrong (mainPoints (terms .moving) (length series)) (terms .stops) ≡ false
+        → n ≤ suc at - since (cutsOf terms) at
+        → showsAlone (terms .limits) t (take (at + 1 - (at + 1 - n)) (drop (at + 1 - n) series)) ≡ shownAt series terms at bit
+    shown-by-part h g w =
         let m = window (testOf bit) in
-        let fits : m ≤ suc at = omega (arith, longs) in
+        let next : m ≤ suc at - since (cutsOf terms) at = omega (arith, longs) in
         let length-is : at + 1 - (at + 1 - n) ≡ m = omega (arith, longs) in
         let start : at + 1 - n ≡ suc at - m = omega (arith, longs) in
-        ap (λ (u : Test). showsAlone terms u (take (at + 1 - (at + 1 - n)) (drop (at + 1 - n) series))) (sym same)
-        ∙ ap (showsAlone terms (testOf bit)) (ap₂ (λ (x y : ℕ). take x (drop y series)) length-is start)
+        ap (λ (u : Test). showsAlone (terms .limits) u (take (at + 1 - (at + 1 - n)) (drop (at + 1 - n) series))) (sym same)
+        ∙ ap (showsAlone (terms .limits) (testOf bit)) (ap₂ (λ (x y : ℕ). take x (drop y series)) length-is start)
         ∙ ap (λ (k : ℕ). finiteLimits (terms .limits)
-        && (allFinite (partTo m at series) && shows (testOf bit) (linesOf (terms .limits)) (newestFirst (partTo m at series) k)))
-        (length-part series at m fits h)
-        ∙ sym (shown-by-window h (was-found bit t is .0) fits)
+        && (allFinite (partTo m at series) && shows (testOf bit) (linesOf (terms .limits)) (newestFirst unbroken (partTo m at series) k)))
+        (length-part (cutsOf terms) series at m next h)
+        ∙ sym (shown-by-window h g (was-found bit t is .0) next)
 
     pub a-span : shownAt series terms at bit ≡ true → spanAt series terms at bit ≡ record { start = at + 1 - n; end = at + 1 }
     unfolding spanAt

@@ -1,6 +1,6 @@
 -- The evidence as a part of its series: from where the window starts to where it ends, or nothing. Assumes nothing.
 use mathlib.Core.Path.{_≡_, refl, sym, ap, _∙_}
-use mathlib.Core.Bool.{Bool, true, false, cond}
+use mathlib.Core.Bool.{Bool, true, false, not, cond}
 use mathlib.Core.List.{List}
 use Prim.Native.Nat.{ℕ, suc, _-_, _≤_}
 use native.Mathlib.Omega.{arith}
@@ -10,15 +10,16 @@ use lib.Ieee.{Float}
 use lib.ListN.{length, take}
 use Rattle.laws.proofs.Bools.{both}
 use Rattle.sets.specs.Sets.{tests, testOf}
+use Rattle.stops.specs.Stops.{stopsWrong, mainPoints}
 use Rattle.rules.specs.Terms.{Terms}
 use Rattle.evidence.specs.declared.Span.{Span}
 use Rattle.rules.specs.Tests.{window}
 use Rattle.floats.specs.Finite.{allFinite}
 use Rattle.rules.specs.Finite.{finiteLimits}
-use Rattle.rules.specs.Marking.{newestFirst, stands}
+use Rattle.rules.specs.Marking.{newestFirst, stands, cutsOf}
 use Rattle.evidence.specs.Evidence.{Part, nothing, shownAt, evidenceOf}
 use Rattle.evidence.specs.Steps.{spanAt}
-use Rattle.evidence.proofs.Behind.{length-newest}
+use Rattle.rules.proofs.Stopped.{length-since}
 
 abbrev pub spanned : Bool → Span → Part
 spanned second s = record { second = second; start = s .start; long = s .end - s .start }
@@ -28,14 +29,15 @@ module _ (series : List Float) (terms : Terms) (at bit : ℕ) where
   shown-fits : shownAt series terms at bit ≡ true → window (testOf bit) ≤ suc at
   unfolding shownAt stands
   shown-fits h =
-      let past = newestFirst series (suc at) in
+      let past = newestFirst (cutsOf terms) series (suc at) in
       let w = window (testOf bit) in
       let in-range = both (ltb at (length series)) _ h .1 in
       let sound = both (ltb bit (length tests)) _ in-range .1 in
-      let finite = both (finiteLimits (terms .limits)) _ sound .1 in
+      let stopped = both (not (stopsWrong (mainPoints (terms .moving) (length series)) (terms .stops))) _ sound .1 in
+      let finite = both (finiteLimits (terms .limits)) _ stopped .1 in
       let there = both (allFinite (take w past)) _ finite .1 in
       let fits : leb w (length past) ≡ true = both (leb w (length past)) _ there .0 in
-      omega (arith, leb-true w (length past) fits, length-newest series (suc at))
+      omega (arith, leb-true w (length past) fits, length-since (cutsOf terms) series at)
 
   -- the part, by whether the pattern is shown
   by-shown : (second : Bool) → cond (shownAt series terms at bit) (record { second = second; start = suc at - window (testOf bit); long = window (testOf bit) }) (record { second = second; start = 0; long = 0 })

@@ -1,19 +1,20 @@
--- The window behind a mark (01, 'The mark sheet', Evidence). Definitions only.
+-- The window behind a mark (01, 'The mark sheet', Evidence; 02, R-1). Definitions only.
 use mathlib.Core.Path.{_≡_}
-use mathlib.Core.Bool.{Bool, false, _&&_, cond}
+use mathlib.Core.Bool.{Bool, false, not, _&&_, cond}
 use mathlib.Core.List.{List}
 use Prim.Native.Nat.{ℕ, suc, _+_, _*_, _-_}
 use denote.Ref.{RefT}
 use lib.Dec.{ltb, leb, eqb}
 use lib.Ieee.{Float}
 use lib.ListN.{length, take, drop}
+use Rattle.stops.specs.Stops.{stopsWrong, mainPoints}
 use Rattle.sets.specs.Sets.{tests, testOf}
 use Rattle.rules.specs.Terms.{Terms}
 use Rattle.rules.specs.Lines.{linesOf}
 use Rattle.rules.specs.Tests.{window}
 use Rattle.floats.specs.Finite.{allFinite}
 use Rattle.rules.specs.Finite.{finiteLimits}
-use Rattle.rules.specs.Marking.{newestFirst, stands}
+use Rattle.rules.specs.Marking.{newestFirst, stands, cutsOf}
 
 -- a part of one of two series: of which, where it starts, how long it is
 pub record Part : Type 0 where
@@ -25,14 +26,16 @@ pub record Part : Type 0 where
 abbrev pub nothing : Part
 nothing = record { second = false; start = 0; long = 0 }
 
--- The position and the test are in range, the limits and the window's values are finite, the window fits and shows the pattern.
+-- The position and the test are in range, the stops are some of the series, the limits and the window's values are finite, the window fits
+-- and shows the pattern.
 unfoldable pub shownAt : List Float → Terms → ℕ → ℕ → Bool
 shownAt series terms at bit =
     ltb at (length series)
     && (ltb bit (length tests)
+    && (not (stopsWrong (mainPoints (terms .moving) (length series)) (terms .stops))
     && (finiteLimits (terms .limits)
-    && (allFinite (take (window (testOf bit)) (newestFirst series (suc at)))
-    && stands (linesOf (terms .limits)) (newestFirst series (suc at)) (testOf bit))))
+    && (allFinite (take (window (testOf bit)) (newestFirst (cutsOf terms) series (suc at)))
+    && stands (linesOf (terms .limits)) (newestFirst (cutsOf terms) series (suc at)) (testOf bit)))))
 
 -- the window that ends at the position, of the series of that number, 0 or 1
 unfoldable pub evidenceOf : List Float → List Float → ℕ → Terms → ℕ → ℕ → Part

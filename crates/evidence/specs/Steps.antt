@@ -6,6 +6,8 @@ use lib.Ieee.{Float}
 use lib.ListN.{length}
 use Rattle.sets.specs.declared.Test.{Test}
 use Rattle.sets.specs.Sets.{testOf}
+use Rattle.stops.specs.Cuts.{unbroken}
+use Rattle.rules.specs.declared.Limits.{Limits}
 use Rattle.rules.specs.Terms.{Terms}
 use Rattle.evidence.specs.declared.Span.{Span}
 use Rattle.rules.specs.Lines.{linesOf}
@@ -16,8 +18,8 @@ use Rattle.rules.specs.Marking.{newestFirst}
 use Rattle.evidence.specs.Evidence.{shownAt}
 
 -- the values of a window and the limits are finite, and it shows the pattern
-abbrev pub showsAlone : Terms → Test → List Float → Bool
-showsAlone terms t part = finiteLimits (terms .limits) && (allFinite part && shows t (linesOf (terms .limits)) (newestFirst part (length part)))
+abbrev pub showsAlone : Limits → Test → List Float → Bool
+showsAlone limits t part = finiteLimits limits && (allFinite part && shows t (linesOf limits) (newestFirst unbroken part (length part)))
 
 -- where it starts and ends in its series, or 0 and 0 where there is none
 unfoldable pub spanAt : List Float → Terms → ℕ → ℕ → Span

@@ -16,11 +16,12 @@ ghost use Rattle.evidence.specs.Steps.{showsAlone, spanAt};
 // as a series of its own, by a set with this test alone.
 fn shows_pattern(part: &[f64], limits: Limits, t: Test) -> bool
     requires { ⌜ length (now part) ≡ window t ⌝ }
-    ensures { λ r. ⌜ r ≡ showsAlone (under limits) t (now (part .entry)) ⌝ }
+    ensures { λ r. ⌜ r ≡ showsAlone limits t (now (part .entry)) ⌝ }
 {
+    let none = [0usize; 0];
     let mut marks = [0u16; 15];
     let set = RuleSet { mask: 1 << t.bit() };
-    let answered = mark(part, limits, set, &mut marks);
+    let answered = mark(part, &none, false, limits, set, &mut marks);
     if answered.number() != 0 {
         return false;
     }
@@ -34,10 +35,20 @@ struct Span {
 }
 
 // The window that ends at a position, where it shows the pattern of a test, and else 0 and 0.
-fn span_at(series: &[f64], limits: Limits, at: usize, bit: u64) -> Span
-    ensures { λ r. ⌜ (r ≡ spanAt (now (series .entry)) (under limits) at bit) × (r .start ≤ r .end) × (r .end ≤ length (now (series .entry))) ⌝ }
+fn span_at(
+    series: &[f64],
+    stops: &[usize],
+    moving: bool,
+    limits: Limits,
+    at: usize,
+    bit: u64,
+) -> Span
+    ensures { λ r. ⌜ (r ≡ spanAt (now (series .entry)) (under limits (now (stops .entry)) moving) at bit) × (r .start ≤ r .end) × (r .end ≤ length (now (series .entry))) ⌝ }
 {
     if series.len() <= at {
+        return Span { start: 0, end: 0 };
+    }
+    if stops::wrong(stops, moving, series.len()) {
         return Span { start: 0, end: 0 };
     }
     let Found::Test(t) = Test::from_bit(bit) else {
@@ -49,6 +60,9 @@ fn span_at(series: &[f64], limits: Limits, at: usize, bit: u64) -> Span
         return Span { start: 0, end: 0 };
     }
     let start = end - n;
+    if start < stops::since(stops, moving, at) {
+        return Span { start: 0, end: 0 };
+    }
     if shows_pattern(&series[start..end], limits, t) {
         return Span { start, end };
     }
@@ -58,36 +72,40 @@ fn span_at(series: &[f64], limits: Limits, at: usize, bit: u64) -> Span
 /// The window behind a mark: the part of the named series that ends at the position `at` and shows the pattern of the
 /// test with the bit number `bit`.
 ///
-/// `series` is 0 for `main` and 1 for `dispersion`, and `limits` are those of that series. The part is one of the lent
-/// series itself, not a copy.
+/// `series` is 0 for `main` and 1 for `dispersion`, and `limits` are those of that series; `moving` says whether it is one of
+/// moving ranges, and `stops` are those of its main series. The part is one of the lent series itself, not a copy.
 ///
 /// # Refusals
 ///
 /// The empty part at the front of `main` where the series' number, the position or the bit number is out of range, the
-/// window does not fit, its values or the limits are not all finite, or it does not show the pattern.
+/// stops, wherever they lie, are none of the series (see [`stops::wrong`]), the window does not fit or reaches over a stop,
+/// its values or the limits are not all finite, or it does not show the pattern.
 ///
 /// # Example
 ///
 /// Under the limits 28.0, 25.0, 22.0 the evidence of bit 4 (two of three beyond two sigma) at position 2 of 27.5, 25.0,
-/// 27.5 is all three values; at position 1 it is empty, since the window does not fit.
+/// 27.5 is all three values; at position 1 it is empty, since the window does not fit, and so it is at position 2 where the
+/// belt stood still before position 1 or 2.
 pub fn evidence<'a>(
     main: &'a [f64],
     dispersion: &'a [f64],
     series: u64,
+    stops: &[usize],
+    moving: bool,
     limits: Limits,
     at: usize,
     bit: u64,
 ) -> &'a [f64]
-    ensures { λ r. ⌜ IsPart (main .entry) (dispersion .entry) r (evidenceOf (now (main .entry)) (now (dispersion .entry)) series (under limits) at bit) ⌝ }
+    ensures { λ r. ⌜ IsPart (main .entry) (dispersion .entry) r (evidenceOf (now (main .entry)) (now (dispersion .entry)) series (under limits (now (stops .entry)) moving) at bit) ⌝ }
 {
     if series == 0 {
-        let span = span_at(main, limits, at, bit);
+        let span = span_at(main, stops, moving, limits, at, bit);
         let start = span.start;
         let end = span.end;
         return &main[start..end];
     }
     if series == 1 {
-        let span = span_at(dispersion, limits, at, bit);
+        let span = span_at(dispersion, stops, moving, limits, at, bit);
         let start = span.start;
         let end = span.end;
         if end == 0 {

@@ -49,6 +49,25 @@ length-since cut values (suc i) = by (cut (suc i)) (length-since cut values i)
     by true h = omega arith
     by false h = omega (arith, h, since-le cut i)
 
+-- they are the newest of all values
+newest-begins : (cut : ℕ → Bool) (values : List Float) (n : ℕ)
+    → newestFirst cut values n ≡ take (length (newestFirst cut values n)) (newestFirst unbroken values n)
+unfolding newestFirst
+newest-begins cut values zero = refl
+newest-begins cut values (suc i) = ap (λ (w : List Float). getD values i nan ∷ w) (by (cut i) (newest-begins cut values i))
+  where
+    by : (b : Bool) → newestFirst cut values i ≡ take (length (newestFirst cut values i)) (newestFirst unbroken values i)
+        → cond b [] (newestFirst cut values i) ≡ take (length (cond b [] (newestFirst cut values i))) (newestFirst unbroken values i)
+    by true h = refl
+    by false h = h
+
+-- so a window that no cut parts is that of the series as if there were none
+pub take-newest : (cut : ℕ → Bool) (values : List Float) (i n : ℕ) → n ≤ suc i - since cut i
+    → take n (newestFirst cut values (suc i)) ≡ take n (newestFirst unbroken values (suc i))
+take-newest cut values i n h =
+    ap (take n) (newest-begins cut values (suc i))
+    ∙ take-take n (length (newestFirst cut values (suc i))) (newestFirst unbroken values (suc i)) (omega (arith, length-since cut values i))
+
 -- ---- the values next to each other, with a cut more
 
 module _ (cut : ℕ → Bool) (q : ℕ) (values : List Float) where

@@ -136,3 +136,9 @@ pub since-stops : (stops : List ℕ) (moving : Bool) (at : ℕ) → byStops (nea
 since-stops stops moving at =
     ap (byStops (nearer at) stops moving) (sym (since-unbroken at))
     ∙ by-stops (nearer at) (λ cut. since cut at) (since-more at) stops moving unbroken
+
+-- ---- no stops, no cuts
+
+pub no-stops : (moving : Bool) → cutAt [] moving ≡ unbroken
+unfolding cutAt stopAt
+no-stops moving = fun-ext (λ q. and-false moving)

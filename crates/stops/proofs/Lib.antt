@@ -1,3 +1,3 @@
 -- The laws of stops.
-mod Rising
+pub mod Rising
 pub mod Cuts

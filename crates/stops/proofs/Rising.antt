@@ -70,3 +70,8 @@ module _ (points : ℕ) where
     pub wrong-none : length stops ≤ i → wrongFrom points last (drop i stops) ≡ false
     unfolding wrongFrom
     wrong-none h = rw (drop-of-length-le stops h) refl
+
+-- no positions are stops of any series
+pub none-wrong : (points : ℕ) → stopsWrong points [] ≡ false
+unfolding stopsWrong rising every
+none-wrong points = refl

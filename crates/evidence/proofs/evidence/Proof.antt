@@ -26,8 +26,8 @@ part-result-end c = search needs
 
 returns : tie.Need-returns
 returns c =
-    let args = c .before .before .before .before .before .args in
-    let part = main-part (args .main .now) (args .dispersion .now) (args .series) (under (args .limits)) (args .at) (args .bit) (c .before .before .if1 .taken) in
+    let args = c .before .before .before .before .before .before .args in
+    let part = main-part (args .main .now) (args .dispersion .now) (args .series) (under (args .limits) (args .stops .now) (args .moving)) (args .at) (args .bit) (c .before .before .if1 .taken) in
     rw (part, ← c .before .span-at .ensures .0)
     (record { block = refl; place = search needs; values = search needs })
 
@@ -45,10 +45,10 @@ part-result-end-2 c = search needs
 
 returns-2 : tie.Need-returns-2
 returns-2 c =
-    let args = c .before .before .before .before .before .before .before .args in
+    let args = c .before .before .before .before .before .before .before .before .args in
     let span = c .before .before .span-at2 .ensures .0 in
     let ends = ap (λ (s : Span). s .end) (sym span) ∙ c .before .if3 .taken in
-    rw (second-none (args .main .now) (args .dispersion .now) (args .series) (under (args .limits)) (args .at) (args .bit) (c .before .before .before .if2 .taken) ends)
+    rw (second-none (args .main .now) (args .dispersion .now) (args .series) (under (args .limits) (args .stops .now) (args .moving)) (args .at) (args .bit) (c .before .before .before .if2 .taken) ends)
     (record { block = refl; place = search needs; values = search needs })
 
 mul-result-2 : tie.Need-mul-result-2
@@ -65,9 +65,9 @@ part-result-end-3 c = search needs
 
 returns-3 : tie.Need-returns-3
 returns-3 c =
-    let args = c .before .before .before .before .before .before .before .args in
+    let args = c .before .before .before .before .before .before .before .before .args in
     let span = c .before .before .span-at2 .ensures .0 in
-    let part = second-part (args .main .now) (args .dispersion .now) (args .series) (under (args .limits)) (args .at) (args .bit) (c .before .before .before .if2 .taken)
+    let part = second-part (args .main .now) (args .dispersion .now) (args .series) (under (args .limits) (args .stops .now) (args .moving)) (args .at) (args .bit) (c .before .before .before .if2 .taken)
     (λ e. c .before .if3 .left (ap (λ (s : Span). s .end) span ∙ e)) in
     rw (part, ← span)
     (record { block = refl; place = search needs; values = search needs })
@@ -83,9 +83,9 @@ part-result-end-4 c = search needs
 
 returns-4 : tie.Need-returns-4
 returns-4 c =
-    let args = c .before .before .before .before .before .args in
+    let args = c .before .before .before .before .before .before .args in
     let neither : 2 ≤ args .series = omega (arith, c .before .before .if1 .left, c .before .if2 .left) in
-    rw (no-series (args .main .now) (args .dispersion .now) (args .series) (under (args .limits)) (args .at) (args .bit) neither)
+    rw (no-series (args .main .now) (args .dispersion .now) (args .series) (under (args .limits) (args .stops .now) (args .moving)) (args .at) (args .bit) neither)
     (record { block = refl; place = search needs; values = search needs })
 
 pub evidence-spec : {M : Type 1} → statement M

@@ -1,7 +1,7 @@
 -- `evidence::shows_pattern` meets its contract: the window's last mark is its pattern's. Assumes nothing.
 use mathlib.Core.Path.{_≡_, sym, ap, _∙_}
-use mathlib.Core.Bool.{not}
-use mathlib.Core.List.{List}
+use mathlib.Core.Bool.{false, not}
+use mathlib.Core.List.{List, []}
 use Prim.Native.Nat.{ℕ, _*_, _-_, _%_, _^_}
 use native.Mathlib.Omega.{arith}
 use lib.Dec.{eqb}
@@ -25,69 +25,45 @@ alone : (c : tie.After-bit) → mask c ≡ 2 ^ bitOf (c .before .before .args .t
 alone c =
     one-shl (c .bit .result) 16 (omega (arith, c .bit .ensures, bitOf-lt (c .before .before .args .t))) ∙ ap (λ (k : ℕ). 2 ^ k) (c .bit .ensures)
 
-abbrev start : tie.After-number → tie.Start
-start c = c .before .before .before .before .before .before
-
-answered : (c : tie.After-number) → c .number .result ≡ answerOf (under (start c .args .limits)) (mask (c .before .before .before .before)) (start c .args .part .now) 15
+answered : (c : tie.After-number) → c .number .result ≡ answerOf (under (c .before .before .before .before .before .before .before .args .limits) [] false) (mask (c .before .before .before .before .before)) (c .before .before .before .before .before .before .before .args .part .now) 15
 answered c = c .number .ensures ∙ c .before .before .mark .ensures .0
 
 -- ---- the needs
 
-bit-requires : tie.Need-bit-requires
-bit-requires c κs = search needs
-
-cast-t8 : tie.Need-cast-t8
-cast-t8 c = omega (arith, c .bit .ensures, bitOf-lt (c .before .before .args .t))
-
-shl-t9 : tie.Need-shl-t9
-shl-t9 c = omega (arith, c .bit .ensures, bitOf-lt (c .before .before .args .t))
-
-slice-aggregate-mark : tie.Need-slice-aggregate-mark
-slice-aggregate-mark c = search needs
-
-mark-requires : tie.Need-mark-requires
-mark-requires c κs = search needs
-
-number-requires : tie.Need-number-requires
-number-requires c κs = search needs
-
 returns : tie.Need-returns
 returns c =
-    let s = start (c .before) in
-    refused-alone (under (s .args .limits)) (s .args .t) (s .args .part .now) (s .pre) _ (alone (c .before .before .before .before .before))
-    (λ e. c .if1 .taken (answered (c .before) ∙ e))
+    let s = c .before .before .before .before .before .before .before .before in
+    refused-alone (s .args .limits) (s .args .t) (s .args .part .now) (s .pre) _ (alone (c .before .before .before .before .before .before)) (λ e. c .if1 .taken (answered (c .before) ∙ e))
 
 sub-result : tie.Need-sub-result
 sub-result c =
-    let s = start (c .before) in
+    let s = c .before .before .before .before .before .before .before .before in
     part-bounds (s .args .t) (s .args .part .now) (s .pre) .0
-
-mul-result : tie.Need-mul-result
-mul-result c = search needs
 
 array-read-result : tie.Need-array-read-result
 array-read-result c =
-    let s = start (c .before) in
+    let s = c .before .before .before .before .before .before .before .before in
     omega (arith, part-bounds (s .args .t) (s .args .part .now) (s .pre))
 
 returns-2 : tie.Need-returns-2
 returns-2 c =
-    let s = start (c .before) in
+    let s = c .before .before .before .before .before .before .before .before in
     ap (λ (m : List ℕ). not (eqb (getD m (length (s .args .part .now) - 1) 0) 0)) (c .before .before .before .mark .ensures .1)
-    ∙ marked-alone (under (s .args .limits)) (s .args .t) (s .args .part .now) (s .pre) _ (alone (c .before .before .before .before .before)) (sym (answered (c .before)) ∙ c .if1 .left)
+    ∙ marked-alone (s .args .limits) (s .args .t) (s .args .part .now) (s .pre) _ (alone (c .before .before .before .before .before .before)) (sym (answered (c .before)) ∙ c .if1 .left)
 
 pub shows-pattern-spec : {M : Type 1} → statement M
 shows-pattern-spec =
     tie.close
     (tie.spec
-    bit-requires
-    cast-t8
-    shl-t9
-    slice-aggregate-mark
-    mark-requires
-    number-requires
+    (λ c κs. search needs)
+    (λ c. omega (arith, c .bit .ensures, bitOf-lt (c .before .before .args .t)))
+    (λ c. omega (arith, c .bit .ensures, bitOf-lt (c .before .before .args .t)))
+    (λ c. search needs)
+    (λ c. search needs)
+    (λ c κs. search needs)
+    (λ c κs. search needs)
     returns
     sub-result
-    mul-result
+    (λ c. search needs)
     array-read-result
     returns-2)
