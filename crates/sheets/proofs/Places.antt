@@ -23,7 +23,7 @@ use Rattle.groups.proofs.Onward.{by-number}
 use Rattle.rules.specs.Terms.{Terms}
 use Rattle.rules.specs.Lines.{linesOf}
 use Rattle.sets.specs.Sets.{largest}
-use Rattle.rules.specs.Marking.{most, ahead, refusal, marksAt, marksOf}
+use Rattle.rules.specs.Marking.{most, ahead, refusal, marksAt, cutsOf, marksOf}
 use Rattle.rules.proofs.Accepted.{was-accepted}
 use Rattle.rules.proofs.Meaning.{marks-lt, length-marks}
 use Rattle.sheets.specs.Sheet.{marked, entriesOf, sheetOf}
@@ -162,7 +162,7 @@ said-within most top s at =
 
 -- Every verdict: a number alone, a form fault with its place, or wrong marks with the position and both marks.
 pub data Bounded : Verdict → Type 0 where
-  alone : {n : ℕ} → n ≤ 10 → Bounded (n, 0, 0, 0)
+  alone : {n : ℕ} → n ≤ 15 → Bounded (n, 0, 0, 0)
   form : {p : ℕ} → p ≤ 81950 → Bounded (9, p, 0, 0)
   wrong : {i right stated : ℕ} → i < 4096 → right ≤ 511 → stated ≤ 511 → Bounded (11, i, right, stated)
 
@@ -192,15 +192,16 @@ small-table top f h i zero = nil
 small-table top f h i (suc n) = cons (h i) (small-table top f h (suc i) n)
 
 module _ (terms : Terms) (set : ℕ) (values : List Float) where
-  low : refusal terms set values ≤ 10
+  low : refusal terms set values ≤ 15
   unfolding ahead every
-  low = first-under 10 (ahead terms set values) refl
+  low = first-under 15 (ahead terms set values) refl
 
   marks-small : Small 511 (marksOf terms set values)
   unfolding marksOf
   marks-small =
+      let cut = cutsOf terms in
       let l = linesOf (terms .limits) in
-      small-table 511 (marksAt l set values) (λ i. let h = marks-lt l set values i in omega arith) 0 (length values)
+      small-table 511 (marksAt cut l set values) (λ i. let h = marks-lt cut l set values i in omega arith) 0 (length values)
 
   marks-few : refusal terms set values ≡ 0 → length (marksOf terms set values) ≤ 4096
   marks-few e =
@@ -255,7 +256,7 @@ sheet-long set ms low few small =
 
 -- what the writer answers: a number alone, or the length of a sheet
 pub data Short : ℕ × ℕ → Type 0 where
-  number-only : {n : ℕ} → n ≤ 10 → Short (n, 0)
+  number-only : {n : ℕ} → n ≤ 15 → Short (n, 0)
   bytes : {n : ℕ} → n ≤ 16390 → Short (0, n)
 
 pub write-short : (terms : Terms) (set : ℕ) (values : List Float) (room : ℕ) → Short (writeOf terms set values room)

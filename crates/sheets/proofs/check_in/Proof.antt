@@ -18,12 +18,12 @@ use Rattle.sheets.proofs.check_in.Tie as tie
 
 -- what the call was given, and what marking made of it
 abbrev start : tie.After-enum-told → tie.Start
-start c = c .before .before .before .before .before .before .before .before .before
+start c = c .before .before .before .before .before .before .before .before .before .before
 
 abbrev terms : tie.Start → Terms
-terms s = under (s .args .limits)
+terms s = under (s .args .limits) (s .args .stops .now) (s .args .moving)
 
-done : (c : tie.After-enum-told) → Made (terms (start c)) (start c .args .set .mask) (start c .args .values .now) (start c .args .marks .now) (c .before .before .before .before .mark .last .1 .1 .1 .0)
+done : (c : tie.After-enum-told) → Made (terms (start c)) (start c .args .set .mask) (start c .args .values .now) (start c .args .marks .now) (c .before .before .before .before .mark .last .1 .1 .1 .1 .1 .0)
 done c =
     let s = start c in
     let mark = c .before .before .before .before .mark in
@@ -31,19 +31,19 @@ done c =
     (ap numbered (c .enum-told .given .1)) (mark .ensures .1)
 
 part-check-marks-end : tie.Need-part-check-marks-end
-part-check-marks-end c = omega (arith, done (c .before) .room, c .before .before .before .before .before .mark .kept .1 .1 .1 .0)
+part-check-marks-end c = omega (arith, done (c .before) .room, c .before .before .before .before .before .mark .kept .1 .1 .1 .1 .1 .0)
 
 returns : tie.Need-returns
 returns c =
     let all = done (c .before .before .before) in
-    let args = c .before .before .before .before .before .before .before .before .before .before .before .before .args in
+    let args = c .before .before .before .before .before .before .before .before .before .before .before .before .before .args in
     c .check-marks .ensures
     ∙ ap (λ (ms : List ℕ). judged (args .set .mask) ms (said (args .sheet .now))) (all .front)
-    ∙ check-done (under (args .limits)) (args .set .mask) (args .values .now) (all .none) (args .sheet .now)
+    ∙ check-done (under (args .limits) (args .stops .now) (args .moving)) (args .set .mask) (args .values .now) (all .none) (args .sheet .now)
 
 returns-2 : tie.Need-returns-2
 returns-2 c =
-    let s = c .before .before .before .before .before .before .before .before .before .before in
+    let s = c .before .before .before .before .before .before .before .before .before .before .before in
     let mark = c .before .before .before .before .before .mark in
     let why = c .before .why .given in
     let told = refusal-is (terms s) (s .args .set .mask) (s .args .values .now) (length (s .args .marks .now)) (s .pre) (mark .result)

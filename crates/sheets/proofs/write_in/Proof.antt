@@ -20,12 +20,12 @@ use Rattle.sheets.proofs.write_in.Tie as tie
 
 -- what the call was given, and what marking made of it
 abbrev start : tie.After-enum-told → tie.Start
-start c = c .before .before .before .before .before .before .before .before .before
+start c = c .before .before .before .before .before .before .before .before .before .before
 
 abbrev terms : tie.Start → Terms
-terms s = under (s .args .limits)
+terms s = under (s .args .limits) (s .args .stops .now) (s .args .moving)
 
-done : (c : tie.After-enum-told) → Made (terms (start c)) (start c .args .set .mask) (start c .args .values .now) (start c .args .marks .now) (c .before .before .before .before .mark .last .1 .1 .1 .0)
+done : (c : tie.After-enum-told) → Made (terms (start c)) (start c .args .set .mask) (start c .args .values .now) (start c .args .marks .now) (c .before .before .before .before .mark .last .1 .1 .1 .1 .1 .0)
 done c =
     let s = start c in
     let mark = c .before .before .before .before .mark in
@@ -33,12 +33,12 @@ done c =
     (ap numbered (c .enum-told .given .1)) (mark .ensures .1)
 
 part-write-marks-end : tie.Need-part-write-marks-end
-part-write-marks-end c = omega (arith, done (c .before) .room, c .before .before .before .before .before .mark .kept .1 .1 .1 .0)
+part-write-marks-end c = omega (arith, done (c .before) .room, c .before .before .before .before .before .mark .kept .1 .1 .1 .1 .1 .0)
 
 write-marks-requires : tie.Need-write-marks-requires
 write-marks-requires c κs =
     let all = done (c .before .before .before) in
-    let s = c .before .before .before .before .before .before .before .before .before .before .before .before in
+    let s = c .before .before .before .before .before .before .before .before .before .before .before .before .before in
     let set = s .args .set .mask in
     let values = s .args .values .now in
     omega (arith, ap length (all .front), length-marks (terms s) set values, was-accepted (terms s) set values (all .none) .few)
@@ -47,7 +47,7 @@ returns : tie.Need-returns
 unfolding seriesSheet
 returns c =
     let all = done (c .before .before .before .before .before .before) in
-    let s = c .before .before .before .before .before .before .before .before .before .before .before .before .before .before .before in
+    let s = c .before .before .before .before .before .before .before .before .before .before .before .before .before .before .before .before in
     let set = s .args .set .mask in
     let values = s .args .values .now in
     let out = s .args .out .now in
@@ -58,7 +58,7 @@ returns c =
 
 returns-2 : tie.Need-returns-2
 returns-2 c =
-    let s = c .before .before .before .before .before .before .before .before .before .before in
+    let s = c .before .before .before .before .before .before .before .before .before .before .before in
     let mark = c .before .before .before .before .before .mark in
     let why = c .before .why .given in
     let told = refusal-is (terms s) (s .args .set .mask) (s .args .values .now) (length (s .args .marks .now)) (s .pre) (mark .result)
