@@ -25,7 +25,7 @@ use Rattle.stops.specs.Cuts.{unbroken}
 use Rattle.stops.proofs.Rising.{none-wrong}
 use Rattle.stops.proofs.Cuts.{no-stops}
 use Rattle.rules.specs.declared.Limits.{Limits}
-use Rattle.rules.specs.Terms.{Terms, under}
+use Rattle.rules.specs.Terms.{Terms, unstopped}
 use Rattle.rules.specs.Lines.{linesOf}
 use Rattle.rules.specs.Tests.{window, shows}
 use Rattle.floats.specs.Finite.{finite, allFinite}
@@ -135,7 +135,7 @@ part-bounds t part long = (omega (arith, window-least t), omega (arith, window-m
 module _ (limits : Limits) (t : Test) (part : List Float) (long : length part ≡ window t) (set : ℕ) (alone : set ≡ 2 ^ bitOf t) where
   -- by itself it has no stops
   abbrev terms : Terms
-  terms = under limits [] false
+  terms = unstopped limits
 
   -- only the finite decide whether it is refused
   by-finite : answerOf terms set part 15 ≡ cond (finiteLimits limits && allFinite part) 0 3

@@ -10,10 +10,10 @@ use lib.Bits.{and-le-r}
 use lib.Dec.{eqb, ltb, leb}
 use lib.Ieee.{Float}
 use lib.ListN.{length, drop, replicate, length-append}
-use borrow.Author.Tests.{ltb-true, ltb-false, leb-true, eqb-true, eqb-false}
+use borrow.Author.Tests.{ltb-true, ltb-false, leb-true, eqb-true, eqb-false, not-true}
 use Rattle.laws.specs.Bools.{every}
 use Rattle.laws.specs.Refusals.{firstOf}
-use Rattle.laws.proofs.Refusals.{first-under}
+use Rattle.laws.proofs.Refusals.{first-such, first-under}
 use Rattle.laws.specs.Lists.{tabulateFrom}
 use Rattle.groups.specs.declared.Reading.the-variants.{Number}
 use Rattle.groups.specs.Groups.{groups, Front, some, none, before, front, readAs, numberAt}
@@ -162,14 +162,14 @@ said-within most top s at =
 
 -- Every verdict: a number alone, a form fault with its place, or wrong marks with the position and both marks.
 pub data Bounded : Verdict → Type 0 where
-  alone : {n : ℕ} → n ≤ 15 → Bounded (n, 0, 0, 0)
+  alone : {n : ℕ} → n ≤ 15 → (n ≡ 11 → ⊥) → Bounded (n, 0, 0, 0)
   form : {p : ℕ} → p ≤ 81950 → Bounded (9, p, 0, 0)
   wrong : {i right stated : ℕ} → i < 4096 → right ≤ 511 → stated ≤ 511 → Bounded (11, i, right, stated)
 
 wrong-bounded : (i : ℕ) {right ms : List ℕ} → i + length right ≤ 4096 → Small 511 right → Small 511 ms → Bounded (firstWrong i right ms)
 unfolding firstWrong
-wrong-bounded i h nil b = alone {n = 0} (omega arith)
-wrong-bounded i h (cons x a) nil = alone {n = 0} (omega arith)
+wrong-bounded i h nil b = alone {n = 0} (omega arith) (λ e. omega arith)
+wrong-bounded i h (cons x a) nil = alone {n = 0} (omega arith) (λ e. omega arith)
 wrong-bounded i h (cons {m = r} {ms = right} x a) (cons {m} {ms} y b) = by (eqb r m) (wrong-bounded (suc i) (omega arith) a b)
   where
     by : (t : Bool) → Bounded (firstWrong (suc i) right ms) → Bounded (cond t (firstWrong (suc i) right ms) (11, i, r, m))
@@ -183,7 +183,7 @@ judged-bounded set right (fault p) few small w = form w
 judged-bounded set right (sheet t ms) few small w = by (not (eqb (length ms) (length right) && eqb t set))
   where
     by : (b : Bool) → Bounded (cond b (10, 0, 0, 0) (firstWrong 0 right ms))
-    by true = alone {n = 10} (omega arith)
+    by true = alone {n = 10} (omega arith) (λ e. omega arith)
     by false = wrong-bounded 0 (omega arith) small w
 
 small-table : (top : ℕ) (f : ℕ → ℕ) → ((i : ℕ) → f i ≤ top) → (i n : ℕ) → Small top (tabulateFrom f i n)
@@ -195,6 +195,10 @@ module _ (terms : Terms) (set : ℕ) (values : List Float) where
   low : refusal terms set values ≤ 15
   unfolding ahead every
   low = first-under 15 (ahead terms set values) refl
+
+  other : refusal terms set values ≡ 11 → ⊥
+  unfolding ahead every
+  other = eqb-false _ 11 (not-true (eqb (refusal terms set values) 11) (first-such (λ n. not (eqb n 11)) (ahead terms set values) refl refl))
 
   marks-small : Small 511 (marksOf terms set values)
   unfolding marksOf
@@ -217,7 +221,7 @@ module _ (terms : Terms) (set : ℕ) (values : List Float) where
           rw (sym (check-done terms set values (eqb-true (refusal terms set values) 0 e) s))
           (judged-bounded set (marksOf terms set values) (said s) (marks-few (eqb-true (refusal terms set values) 0 e)) marks-small
           (said-within most largest s 0))
-      by false e = rw (sym (check-refused terms set values (eqb-false (refusal terms set values) 0 e) s)) (alone low)
+      by false e = rw (sym (check-refused terms set values (eqb-false (refusal terms set values) 0 e) s)) (alone low other)
 
 -- ---- a sheet's length: here each number takes at most two bytes
 

@@ -10,7 +10,8 @@ use Rattle.laws.specs.Bools.{every, count}
 use Rattle.laws.specs.Lists.{tabulateFrom}
 use Rattle.laws.specs.Refusals.{firstOf, each}
 use Rattle.groups.specs.Groups.{groups, numberAt}
-use Rattle.rules.specs.Terms.{Terms, under}
+use Rattle.stops.specs.Stops.{rising, stopsWrong}
+use Rattle.rules.specs.Terms.{Terms, unstopped}
 use Rattle.floats.specs.Finite.{finite, allFinite}
 use Rattle.rules.specs.Finite.{finiteLimits}
 use Rattle.rules.specs.Marking.{ahead, marksOf}
@@ -22,20 +23,20 @@ use Rattle.twin.specs.Answers.{markNumber, markRoom, checkNumber, writeN
 
 -- 28, 25, 22
 abbrev terms : Terms
-terms = under (record { ucl = fin false 7 (pos 2); cl = fin false 25 (pos 0); lcl = fin false 11 (pos 1) })
+terms = unstopped (record { ucl = fin false 7 (pos 2); cl = fin false 25 (pos 0); lcl = fin false 11 (pos 1) })
 
 -- ---- row 11: no points, shewhart
 
 -- into a room of four bytes: the sheet `00 01 00`, its length in bits 8 and up, and the fourth byte as it came
 row-11-written : (writeNumber terms 1 [] (7 ∷ 7 ∷ 7 ∷ 7 ∷ []) ≡ 0x300) × (writeRoom terms 1 [] (7 ∷ 7 ∷ 7 ∷ 7 ∷ []) ≡ 0 ∷ 1 ∷ 0 ∷ 7 ∷ [])
 unfolding writeNumber writeRoom writeOf roomAfter firstOf each ahead finiteLimits allFinite finite every floatsOf tabulateFrom
-    seriesSheet marksOf sheetOf marked count entriesOf groups
+    stopsWrong rising seriesSheet marksOf sheetOf marked count entriesOf groups
 row-11-written = (refl, refl)
 
 -- it is accepted; without its last byte it has a fault at place 2; with the set 0 it is another set's
 row-11-checked : (checkNumber terms 1 [] (0 ∷ 1 ∷ 0 ∷ []) ≡ 0) × (checkNumber terms 1 [] (0 ∷ 1 ∷ []) ≡ 0x209)
     × (checkNumber terms 1 [] (0 ∷ 0 ∷ 0 ∷ []) ≡ 10)
-unfolding checkNumber checkOf firstOf each ahead finiteLimits allFinite finite every floatsOf tabulateFrom marksOf firstWrong saidFrom entries numberAt
+unfolding checkNumber checkOf firstOf each ahead stopsWrong rising finiteLimits allFinite finite every floatsOf tabulateFrom marksOf firstWrong saidFrom entries numberAt
 row-11-checked = (refl, refl, refl)
 
 -- ---- seven bytes: 2, whatever the set and the rooms are, and the rooms as they came

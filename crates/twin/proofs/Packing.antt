@@ -7,7 +7,7 @@ use Rattle.sheets.proofs.Places.{Bounded, alone, form, wrong, Short, number-onl
 use Rattle.twin.specs.Answers.{packed, packedLength}
 
 pub packed-fits : {v : Verdict} → Bounded v → packed v < 2 ^ 64
-packed-fits (alone h) = omega arith
+packed-fits (alone h other) = omega arith
 packed-fits (form h) = omega arith
 packed-fits (wrong i right stated) = omega arith
 
@@ -24,12 +24,12 @@ pub record Read (v : Verdict) (w : ℕ) : Type 0 where
   pub stated : v .0 ≡ 11 → w / 1099511627776 % 65536 ≡ v .3
 
 pub packed-read : {v : Verdict} → Bounded v → Read v (packed v)
-packed-read (alone h) = record {
+packed-read (alone h other) = record {
   number = omega arith;
   place = λ e. omega arith;
-  position = λ e. absurd (omega arith);
-  right = λ e. absurd (omega arith);
-  stated = λ e. absurd (omega arith);
+  position = λ e. absurd (other e);
+  right = λ e. absurd (other e);
+  stated = λ e. absurd (other e);
 }
 packed-read (form h) = record {
   number = omega arith;

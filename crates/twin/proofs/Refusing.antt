@@ -12,7 +12,9 @@ use borrow.Author.Tests.{lt-ltb, le-ltb, ltb-true, ltb-false, eq-eqb, ne-eqb}
 use Rattle.laws.specs.Refusals.{firstOf}
 use Rattle.laws.specs.Front.{atFront}
 use Rattle.laws.proofs.Refusals.{passed, none-applies, accepted}
-use Rattle.rules.specs.Terms.{Terms}
+use Rattle.stops.proofs.Rising.{none-wrong}
+use Rattle.rules.specs.declared.Limits.{Limits}
+use Rattle.rules.specs.Terms.{Terms, unstopped}
 use Rattle.rules.specs.Marking.{most, ahead, refusal, answerOf, marksOf}
 use Rattle.rules.proofs.Accepted.{answer-refused, answer-short, answer-done}
 use Rattle.sheets.specs.Answers.{plain, checkOf, writeOf, roomAfter}
@@ -74,7 +76,10 @@ module _ (terms : Terms) (set : ℕ) (values : List Float) where
 
 -- ---- behind what is refused before a value is read
 
-module _ (terms : Terms) (set : ℕ) (bs : List ℕ) where
+module _ (limits : Limits) (set : ℕ) (bs : List ℕ) where
+  abbrev terms : Terms
+  terms = unstopped limits
+
   abbrev values : List Float
   values = floatsOf bs
 
@@ -86,7 +91,8 @@ module _ (terms : Terms) (set : ℕ) (bs : List ℕ) where
 
   over : length bs / 8 ≤ most → 511 < set → refusal terms set values ≡ 4
   unfolding ahead firstOf
-  over h o = simp (le-ltb most (length values) (omega (arith, length-floats bs)), lt-ltb 511 set o)
+  over h o =
+      simp (le-ltb most (length values) (omega (arith, length-floats bs)), none-wrong (length values), lt-ltb 511 set o)
 
   -- So where something is refused ahead, it is what is refused. `f` makes an answer of a number, `whole` is the library's.
   module _ {A : Type 0} (f : ℕ → A) (whole : A) (r : ℕ) (nz : r ≡ 0 → ⊥)

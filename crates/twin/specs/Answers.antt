@@ -8,15 +8,15 @@ use lib.Ieee.{Float}
 use lib.ListN.{length}
 use Rattle.laws.specs.Refusals.{firstOf}
 use Rattle.laws.specs.Front.{atFront}
-use Rattle.rules.specs.Terms.{Terms, under}
+use Rattle.rules.specs.Terms.{Terms, unstopped}
 use Rattle.rules.specs.Marking.{answerOf, marksOf}
 use Rattle.sheets.specs.Answers.{Verdict, plain, checkOf, writeOf, roomAfter}
 use Rattle.root.specs.Root.{numbered, rootOf}
 use Rattle.twin.specs.Bytes.{floatsOf, notEights, bytesOf}
 
--- what a series is asked under, by its three limits
+-- what a series is asked under, by its three limits: no stops come through the boundary (02, R-10: "C calls keep .. no stops")
 abbrev pub termsOf : Float → Float → Float → Terms
-termsOf u c l = under (record { ucl = u; cl = c; lcl = l })
+termsOf u c l = unstopped (record { ucl = u; cl = c; lcl = l })
 
 -- ---- marking
 

@@ -10,7 +10,7 @@ ghost use mathlib.Core.Path.{_≡_};
 ghost use Prim.Native.Nat.{_+_, _*_, _/_, _%_, _^_, _≤_, _<_};
 ghost use lib.ListN.{length, take, drop};
 ghost use Rattle.laws.specs.Front.{atFront};
-ghost use Rattle.rules.specs.Terms.{under};
+ghost use Rattle.rules.specs.Terms.{unstopped};
 ghost use Rattle.rules.specs.Marking.{most, answerOf};
 ghost use Rattle.sheets.specs.Answers.{checked, written};
 ghost use Rattle.twin.specs.Bytes.{wordOf, floatsOf, bytesOf};
@@ -122,11 +122,12 @@ fn mark_values(
     marks: &mut [u8],
 ) -> u64
     requires { ⌜ (length (now values) ≤ most → length (now values) ≤ length (now ms)) ⌝ }
-    ensures { λ r. ⌜ r ≡ answerOf (under limits) (set .mask) (now (values .entry)) (length (now (marks .entry)) / 2) ⌝ }
-    ensures { λ r. ⌜ now (marks .exit) ≡ bytesAfter (under limits) (set .mask) (now (values .entry)) (now (marks .entry)) ⌝ }
+    ensures { λ r. ⌜ r ≡ answerOf (unstopped limits) (set .mask) (now (values .entry)) (length (now (marks .entry)) / 2) ⌝ }
+    ensures { λ r. ⌜ now (marks .exit) ≡ bytesAfter (unstopped limits) (set .mask) (now (values .entry)) (now (marks .entry)) ⌝ }
 {
     let n = values.len();
-    let marked = rules::mark(values, limits, set, ms).number();
+    let none = [0usize; 0];
+    let marked = rules::mark(values, &none, false, limits, set, ms).number();
     if marked != 0 {
         return wide(marked);
     }
@@ -177,8 +178,8 @@ fn mark_in(
     marks: &mut [u8],
 ) -> u64
     requires { ⌜ (length (now values) / 8 ≤ most → length (now values) / 8 ≤ length (now vs)) × (length (now values) / 8 ≤ most → length (now values) / 8 ≤ length (now ms)) ⌝ }
-    ensures answer { λ r. ⌜ r ≡ markNumber (under limits) set (now (values .entry)) (now (marks .entry)) ⌝ }
-    ensures marks { λ r. ⌜ now (marks .exit) ≡ markRoom (under limits) set (now (values .entry)) (now (marks .entry)) ⌝ }
+    ensures answer { λ r. ⌜ r ≡ markNumber (unstopped limits) set (now (values .entry)) (now (marks .entry)) ⌝ }
+    ensures marks { λ r. ⌜ now (marks .exit) ≡ markRoom (unstopped limits) set (now (values .entry)) (now (marks .entry)) ⌝ }
 {
     let n = values.len() / 8;
     let refused = read_values(values, set, vs);
@@ -190,27 +191,43 @@ fn mark_in(
 
 fn check_in(values: &[u8], limits: Limits, set: u32, vs: &mut [f64], sheet: &[u8]) -> u64
     requires { ⌜ (length (now values) / 8 ≤ most → length (now values) / 8 ≤ length (now vs)) ⌝ }
-    ensures { λ r. ⌜ r ≡ checkNumber (under limits) set (now (values .entry)) (now (sheet .entry)) ⌝ }
+    ensures { λ r. ⌜ r ≡ checkNumber (unstopped limits) set (now (values .entry)) (now (sheet .entry)) ⌝ }
 {
     let n = values.len() / 8;
     let refused = read_values(values, set, vs);
     if refused != 0 {
         return refused;
     }
-    pack(sheets::check(&vs[0..n], limits, RuleSet { mask: set as u16 }, sheet))
+    let none = [0usize; 0];
+    pack(sheets::check(
+        &vs[0..n],
+        &none,
+        false,
+        limits,
+        RuleSet { mask: set as u16 },
+        sheet,
+    ))
 }
 
 fn write_in(values: &[u8], limits: Limits, set: u32, vs: &mut [f64], sheet: &mut [u8]) -> u64
     requires { ⌜ (length (now values) / 8 ≤ most → length (now values) / 8 ≤ length (now vs)) ⌝ }
-    ensures answer { λ r. ⌜ r ≡ writeNumber (under limits) set (now (values .entry)) (now (sheet .entry)) ⌝ }
-    ensures room { λ r. ⌜ now (sheet .exit) ≡ writeRoom (under limits) set (now (values .entry)) (now (sheet .entry)) ⌝ }
+    ensures answer { λ r. ⌜ r ≡ writeNumber (unstopped limits) set (now (values .entry)) (now (sheet .entry)) ⌝ }
+    ensures room { λ r. ⌜ now (sheet .exit) ≡ writeRoom (unstopped limits) set (now (values .entry)) (now (sheet .entry)) ⌝ }
 {
     let n = values.len() / 8;
     let refused = read_values(values, set, vs);
     if refused != 0 {
         return refused;
     }
-    pack_length(sheets::write(&vs[0..n], limits, RuleSet { mask: set as u16 }, sheet))
+    let none = [0usize; 0];
+    pack_length(sheets::write(
+        &vs[0..n],
+        &none,
+        false,
+        limits,
+        RuleSet { mask: set as u16 },
+        sheet,
+    ))
 }
 
 /// Marks every point of a series: two bytes a point at the front of `marks`, low byte first, with test b of the set in

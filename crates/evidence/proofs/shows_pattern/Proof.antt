@@ -1,7 +1,7 @@
 -- `evidence::shows_pattern` meets its contract: the window's last mark is its pattern's. Assumes nothing.
 use mathlib.Core.Path.{_≡_, sym, ap, _∙_}
-use mathlib.Core.Bool.{false, not}
-use mathlib.Core.List.{List, []}
+use mathlib.Core.Bool.{not}
+use mathlib.Core.List.{List}
 use Prim.Native.Nat.{ℕ, _*_, _-_, _%_, _^_}
 use native.Mathlib.Omega.{arith}
 use lib.Dec.{eqb}
@@ -10,7 +10,7 @@ use Rattle.laws.proofs.OneBit.{one-shl}
 use Rattle.sets.specs.Sets.{bitOf}
 use Rattle.sets.proofs.Sets.{bitOf-lt}
 use Rattle.rules.specs.Marking.{answerOf}
-use Rattle.rules.specs.Terms.{under}
+use Rattle.rules.specs.Terms.{unstopped}
 use Rattle.evidence.proofs.Behind.{part-bounds, refused-alone, marked-alone}
 use borrow.Author.Needs.{needs}
 use Rattle.evidence.proofs.shows_pattern.Statement.{statement}
@@ -25,7 +25,7 @@ alone : (c : tie.After-bit) → mask c ≡ 2 ^ bitOf (c .before .before .args .t
 alone c =
     one-shl (c .bit .result) 16 (omega (arith, c .bit .ensures, bitOf-lt (c .before .before .args .t))) ∙ ap (λ (k : ℕ). 2 ^ k) (c .bit .ensures)
 
-answered : (c : tie.After-number) → c .number .result ≡ answerOf (under (c .before .before .before .before .before .before .before .args .limits) [] false) (mask (c .before .before .before .before .before)) (c .before .before .before .before .before .before .before .args .part .now) 15
+answered : (c : tie.After-number) → c .number .result ≡ answerOf (unstopped (c .before .before .before .before .before .before .before .args .limits)) (mask (c .before .before .before .before .before)) (c .before .before .before .before .before .before .before .args .part .now) 15
 answered c = c .number .ensures ∙ c .before .before .mark .ensures .0
 
 -- ---- the needs

@@ -5,7 +5,7 @@ use mathlib.Core.Path.{sym, ap, _∙_}
 use mathlib.Core.List.{List}
 use lib.Ieee.{Float}
 use lib.ListN.{length}
-use Rattle.rules.specs.Terms.{under}
+use Rattle.rules.specs.Terms.{unstopped}
 use Rattle.rules.specs.Marking.{answerOf}
 use Rattle.twin.specs.Answers.{bytesAfter}
 use Rattle.twin.proofs.FromBytes.{length-floats}
@@ -21,9 +21,9 @@ returns : tie.Need-returns
 returns c =
     let args = c .before .before .before .before .before .before .before .before .before .args in
     let bs = args .values .now in
-    let terms = under (args .limits) in
+    let terms = unstopped (args .limits) in
     let read = c .before .before .before .read-values in
-    mark-stops terms (args .set) bs (read .result) (read .ensures .0) (c .if1 .taken) (args .marks .now)
+    mark-stops (args .limits) (args .set) bs (read .result) (read .ensures .0) (c .if1 .taken) (args .marks .now)
 
 part-mark-values-end : tie.Need-part-mark-values-end
 part-mark-values-end c =
@@ -55,12 +55,12 @@ returns-2 : tie.Need-returns-2
 returns-2 c =
     let args = c .before .before .before .before .before .before .before .before .before .before .before .before .before .before .before .before .before .before .args in
     let bs = args .values .now in
-    let terms = under (args .limits) in
+    let terms = unstopped (args .limits) in
     let read = c .before .before .before .before .before .before .before .before .before .before .before .before .read-values in
     let started = sym (read .ensures .0) ∙ c .before .before .before .before .before .before .before .before .before .if1 .left in
     let values = values-front bs (args .set) started _ (read .last .1 .1 .0) (length bs / 8 - 0) (omega arith) (read .ensures .1) in
     let mark = c .before .before .before .before .mark-values .ensures in
-    let goes = mark-goes terms (args .set) bs started (args .marks .now) in (
+    let goes = mark-goes (args .limits) (args .set) bs started (args .marks .now) in (
       mark .0 ∙ ap (λ (vs : List Float). answerOf terms (args .set) vs (length (args .marks .now) / 2)) values ∙ goes .0,
       mark .1 ∙ ap (λ (vs : List Float). bytesAfter terms (args .set) vs (args .marks .now)) values ∙ goes .1,
     )

@@ -5,7 +5,7 @@ use mathlib.Core.Path.{sym, ap, _∙_, subst}
 use mathlib.Core.List.{List}
 use lib.Ieee.{Float}
 use lib.ListN.{length}
-use Rattle.rules.specs.Terms.{under}
+use Rattle.rules.specs.Terms.{unstopped}
 use Rattle.sheets.specs.Answers.{writeOf, roomAfter}
 use Rattle.sheets.proofs.Places.{write-short}
 use Rattle.twin.specs.Bytes.{floatsOf}
@@ -23,9 +23,9 @@ returns : tie.Need-returns
 returns c =
     let args = c .before .before .before .before .before .before .before .before .args in
     let bs = args .values .now in
-    let terms = under (args .limits) in
+    let terms = unstopped (args .limits) in
     let read = c .before .before .before .read-values in
-    write-stops terms (args .set) bs (read .result) (read .ensures .0) (c .if1 .taken) (args .sheet .now)
+    write-stops (args .limits) (args .set) bs (read .result) (read .ensures .0) (c .if1 .taken) (args .sheet .now)
 
 part-write-end : tie.Need-part-write-end
 part-write-end c =
@@ -35,21 +35,21 @@ part-write-end c =
     let started = sym (read .ensures .0) ∙ c .before .if1 .left in
     omega (arith, c .before .before .before .before .before .before .before .before .before .pre (begun bs (args .set) started .few), read .kept .1 .1 .0)
 
-cast-t16 : tie.Need-cast-t16
-cast-t16 c =
-    let args = c .before .before .before .before .before .before .before .before .before .before .args in
+cast-t19 : tie.Need-cast-t19
+cast-t19 c =
+    let args = c .before .before .before .before .before .before .before .before .before .before .before .args in
     let bs = args .values .now in
-    let read = c .before .before .before .before .before .read-values in
-    let started = sym (read .ensures .0) ∙ c .before .before .if1 .left in
+    let read = c .before .before .before .before .before .before .read-values in
+    let started = sym (read .ensures .0) ∙ c .before .before .before .if1 .left in
     omega (arith, begun bs (args .set) started .small)
 
 pack-length-requires : tie.Need-pack-length-requires
 pack-length-requires c κs =
-    let args = c .before .before .before .before .before .before .before .before .before .before .before .before .before .before .args in
+    let args = c .before .before .before .before .before .before .before .before .before .before .before .before .before .before .before .args in
     let bs = args .values .now in
-    let terms = under (args .limits) in
-    let read = c .before .before .before .before .before .before .before .before .before .read-values in
-    let started = sym (read .ensures .0) ∙ c .before .before .before .before .before .before .if1 .left in
+    let terms = unstopped (args .limits) in
+    let read = c .before .before .before .before .before .before .before .before .before .before .read-values in
+    let started = sym (read .ensures .0) ∙ c .before .before .before .before .before .before .before .if1 .left in
     let values = values-front bs (args .set) started _ (read .last .1 .1 .0) (length bs / 8 - 0) (omega arith) (read .ensures .1) in
     subst (λ (a : ℕ × ℕ). packedLength a < 2 ^ 64)
     (sym (c .before .before .write .ensures .0 ∙ ap (λ (vs : List Float). writeOf terms (args .set) vs (length (args .sheet .now))) values))
@@ -57,15 +57,15 @@ pack-length-requires c κs =
 
 returns-2 : tie.Need-returns-2
 returns-2 c =
-    let args = c .before .before .before .before .before .before .before .before .before .before .before .before .before .before .before .args in
+    let args = c .before .before .before .before .before .before .before .before .before .before .before .before .before .before .before .before .args in
     let bs = args .values .now in
-    let terms = under (args .limits) in
-    let read = c .before .before .before .before .before .before .before .before .before .before .read-values in
-    let started = sym (read .ensures .0) ∙ c .before .before .before .before .before .before .before .if1 .left in
+    let terms = unstopped (args .limits) in
+    let read = c .before .before .before .before .before .before .before .before .before .before .before .read-values in
+    let started = sym (read .ensures .0) ∙ c .before .before .before .before .before .before .before .before .if1 .left in
     let values = values-front bs (args .set) started _ (read .last .1 .1 .0) (length bs / 8 - 0) (omega arith) (read .ensures .1) in
     let written = c .before .before .before .write .ensures in
     let answer = written .0 ∙ ap (λ (vs : List Float). writeOf terms (args .set) vs (length (args .sheet .now))) values in
-    let goes = write-goes terms (args .set) bs started (args .sheet .now) in (
+    let goes = write-goes (args .limits) (args .set) bs started (args .sheet .now) in (
       c .pack-length .ensures ∙ ap packedLength answer ∙ goes .0,
       written .1 ∙ ap (λ (vs : List Float). roomAfter terms (args .set) vs (args .sheet .now)) values ∙ goes .1,
     )
@@ -80,7 +80,8 @@ write-in-spec =
     (λ c. search needs)
     (λ c. search needs)
     part-write-end
-    cast-t16
+    (λ c. search needs)
+    cast-t19
     (λ c κs. tt)
     pack-length-requires
     (λ c. search needs)
