@@ -5,10 +5,10 @@ use mathlib.Core.List.{List}
 use Prim.Native.Nat.{ℕ, _+_, _≤_}
 use native.Mathlib.Decide.{ℕ-discrete}
 use native.Mathlib.Omega.{arith}
-use borrow.Author.Tests.{ltb-false, eq-eqb, ne-eqb, not-true}
+use borrow.Author.Tests.{le-ltb, ltb-false, eq-eqb, ne-eqb, not-true}
 use lib.Dec.{ltb, eqb}
 use lib.Ieee.{Float}
-use lib.ListN.{length, drop, replicate}
+use lib.ListN.{length, take, drop, replicate}
 use Rattle.laws.specs.Bools.{every}
 use Rattle.laws.specs.Refusals.{firstOf}
 use Rattle.laws.specs.Front.{atFront}
@@ -20,6 +20,7 @@ use Rattle.rules.specs.Finite.{finiteLimits}
 use Rattle.rules.specs.Marking.{marksOf, answerOf}
 use Rattle.rules.specs.Terms.{Terms, under}
 use Rattle.stops.specs.Stops.{stopsWrong, mainPoints}
+use Rattle.stops.proofs.Rising.{none-wrong}
 use Rattle.rules.proofs.Accepted as marking
 use Rattle.charts.specs.declared.Chart.{Chart}
 use Rattle.charts.specs.declared.Refusal.{Refusal}
@@ -74,6 +75,13 @@ rooms c a b x y h =
 pub counted : (c : Chart) (positions : List ℕ) → positionsWrong c positions ≡ false → c .stops ≤ length positions
 unfolding positionsWrong
 counted c positions h = ltb-false (length positions) (c .stops) (or-left (ltb (length positions) (c .stops)) _ h)
+
+-- where the record counts no stops, nothing is wrong with any positions
+pub none-stopped : (c : Chart) (positions : List ℕ) → c .stops ≡ 0 → positionsWrong c positions ≡ false
+unfolding positionsWrong
+none-stopped c positions e =
+    ap₂ _||_ (le-ltb (length positions) (c .stops) (omega arith))
+    (ap (λ (n : ℕ). stopsWrong (pointsIn c 0) (take n positions)) e ∙ none-wrong (pointsIn c 0))
 
 module _ (a : Asked) (wrong short : Bool) where
   pub record Ahead : Type 0 where

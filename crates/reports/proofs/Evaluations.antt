@@ -30,9 +30,9 @@ use Rattle.evaluating.specs.Asked as asking
 use Rattle.evaluating.specs.Asked.{Asked}
 use Rattle.evaluating.specs.Series.{pointsIn, seriesOf}
 use Rattle.evaluating.specs.Limits.{limitsOf}
-use Rattle.evaluating.specs.Evaluating.{Answer, evaluated, tooFew, noRoom, sound, refusals, seriesMarks, numberOf, answerFor, evaluateOf, lentAfter}
+use Rattle.evaluating.specs.Evaluating.{Answer, evaluated, positionsWrong, tooFew, noRoom, sound, refusals, seriesMarks, numberOf, answerFor, evaluateOf, lentAfter}
 use Rattle.evaluating.proofs.SeriesPoints.{points-most, points-moving, points-subgroups, length-series}
-use Rattle.evaluating.proofs.Outcomes.{Sound, some-held, sound-parts}
+use Rattle.evaluating.proofs.Outcomes.{Sound, none-stopped, some-held, sound-parts}
 use Rattle.reports.specs.Text.{bothMarks, chartText, rLine}
 use Rattle.reports.specs.Report.{firstIndex, refusalOf, chartReport}
 use Rattle.reports.specs.Steps.{size, Legal}
@@ -74,9 +74,9 @@ module _ (a : Asked) (h : Legal (a .chart)) (whole : length (a .values) ≡ size
   stored : not (allFinite (asking.stored a)) ≡ false
   stored = ap (λ (l : List Float). not (allFinite l)) (take-all (size (a .chart)) (a .values) (le-of-eq whole)) ∙ ap not finite
 
-  same-refusal : firstOf (refusals a (short (a .chart))) 0 ≡ refusalOf a
+  same-refusal : firstOf (refusals a (positionsWrong (a .chart) (a .positions)) (short (a .chart))) 0 ≡ refusalOf a
   unfolding refusalOf firstOf
-  same-refusal = rw (right, rooms (a .chart) h, stored, finite) refl
+  same-refusal = rw (right, none-stopped (a .chart) (a .positions) (h .unstopped), rooms (a .chart) h, stored, finite) refl
 
   evaluated-is : evaluateOf a (short (a .chart)) ≡ answerFor (refusalOf a) a
   unfolding evaluateOf

@@ -13,13 +13,14 @@ use Rattle.laws.specs.Refusals.{firstOf}
 use Rattle.groups.specs.Groups.{numberAt}
 use Rattle.sets.specs.Sets.{bitOf, tests, has, setOf}
 use Rattle.floats.specs.Finite.{finite, allFinite}
+use Rattle.stops.specs.Stops.{stopAt, cutAt}
 use Rattle.rules.specs.Finite.{finiteLimits}
 use Rattle.rules.specs.Lines.{oneSigma, twoSigma, linesOf}
 use Rattle.rules.specs.Tests.{steps, alternating, window, shows}
 use Rattle.rules.specs.Marking.{newestFirst, stands, marksAt, marksOf}
 use Rattle.arith.specs.Arith.{meanOf, signCleared, movingOf}
 use Rattle.charts.specs.Records.{byKind, sizeWrong}
-use Rattle.evaluating.specs.Series.{bySeries, pointAt, pointsIn, seriesOf}
+use Rattle.evaluating.specs.Series.{bySeries, pointAt, pointsIn, seriesOf, movingIn}
 use Rattle.evaluating.specs.Limits.{factorFor, mainLimits, lowerLimit, dispersionLimits, centreOf, limitsOf}
 use Rattle.evaluating.specs.Evaluating.{tooFew, sound, seriesMarks}
 use Rattle.reports.specs.Flow.{valuesFrom, headFrom, flowOf}
@@ -55,7 +56,7 @@ worked-report : textOf (0x01 ∷ 0x01 ∷ 0x40 ∷ 0x10 ∷ eights 16)
 unfolding eights lines textOf flowOf headFrom valuesFrom numberAt chartReport refusalOf firstIndex firstOf tooFew sizeWrong byKind
     allFinite finite finiteLimits every count sound limitsOf centreOf mainLimits dispersionLimits lowerLimit factorFor
     seriesOf tabulateFrom pointAt pointsIn bySeries movingOf signCleared meanOf seriesMarks
-    marksOf marksAt newestFirst stands window shows tests bitOf has setOf hasBit fromBits steps alternating linesOf oneSigma twoSigma
+    marksOf marksAt movingIn cutAt stopAt newestFirst stands window shows tests bitOf has setOf hasBit fromBits steps alternating linesOf oneSigma twoSigma
     glyph decimal digits spaced vLines marksIn listed chartText
     ofBits toBits ofInt round add sub mul div lt le
 worked-report = refl

@@ -66,4 +66,5 @@ legal kind size set count k z t n =
     record {
       own = rw (k, z, few, le-ltb _ set t) refl;
       few = ltb-false 2048 (count * size) (or-right (ltb 4096 count) (ltb 2048 (count * size)) n);
+      unstopped = refl;
     }

@@ -17,10 +17,11 @@ use Rattle.reports.specs.Flow.{Said, refused, flow, valuesFrom}
 abbrev pub size : Chart → ℕ
 size c = c .count * c .size
 
--- a record that evaluating takes, of at most 2,048 values
+-- a record that evaluating takes, of at most 2,048 values and with no stops
 pub record Legal (c : Chart) : Type 0 where
   pub own : ownWrong c ≡ false
   pub few : size c ≤ 2048
+  pub unstopped : c .stops ≡ 0
 
 -- what is said, known the numbers at the head
 abbrev pub afterHead : List ℕ → Head → Said

@@ -49,21 +49,21 @@ fn count(counts: &mut [u64; 12], answer: Checked) {
 }
 
 // The checker and the writer, with no stops.
-fn checked(values: &[f64], set: RuleSet, sheet: &[u8]) -> Checked {
+fn checked(values: &[f64], limits: Limits, set: RuleSet, sheet: &[u8]) -> Checked {
     let none = [0usize; 0];
-    sheets::check(values, &none, false, limits(), set, sheet)
+    sheets::check(values, &none, false, limits, set, sheet)
 }
 
-fn write(values: &[f64], set: RuleSet, room: &mut [u8]) -> Written {
+fn write(values: &[f64], limits: Limits, set: RuleSet, room: &mut [u8]) -> Written {
     let none = [0usize; 0];
-    sheets::write(values, &none, false, limits(), set, room)
+    sheets::write(values, &none, false, limits, set, room)
 }
 
 // The length of the sheet that is written into the room, or 0 where it is refused.
 fn sheet_of(values: &[f64], set: RuleSet, room: &mut [u8]) -> usize
     ensures { λ r. ⌜ r ≤ length (now (room .exit)) ⌝ }
 {
-    if let Written::Sheet(n) = write(values, set, room) {
+    if let Written::Sheet(n) = write(values, limits(), set, room) {
         if n <= room.len() {
             return n;
         }
@@ -75,7 +75,7 @@ fn sheet_of(values: &[f64], set: RuleSet, room: &mut [u8]) -> usize
 fn cut(values: &[f64], set: RuleSet, sheet: &[u8], counts: &mut [u64; 12]) {
     let mut n: usize = 0;
     while n < sheet.len() {
-        count(counts, checked(values, set, &sheet[0..n]));
+        count(counts, checked(values, limits(), set, &sheet[0..n]));
         n += 1;
     }
 }
@@ -88,7 +88,7 @@ fn change_at(values: &[f64], set: RuleSet, sheet: &mut [u8], at: usize, counts: 
     let mut by: u8 = 255;
     while 0 < by {
         sheet[at] = was ^ by;
-        count(counts, checked(values, set, sheet));
+        count(counts, checked(values, limits(), set, sheet));
         by -= 1;
     }
     sheet[at] = was;
@@ -111,17 +111,17 @@ fn extend(values: &[f64], set: RuleSet, room: &mut [u8], counts: &mut [u64; 12])
     let mut more: u8 = 255;
     while 0 < more {
         room[last] = more;
-        count(counts, checked(values, set, room));
+        count(counts, checked(values, limits(), set, room));
         more -= 1;
     }
     room[last] = 0;
-    count(counts, checked(values, set, room));
+    count(counts, checked(values, limits(), set, room));
 }
 
 // Writes a sheet into the room, and checks it as it is, changed, cut and extended. Gives its length.
 fn trial(values: &[f64], set: RuleSet, room: &mut [u8], counts: &mut [u64; 12]) -> usize {
     let n = sheet_of(values, set, room);
-    count(counts, checked(values, set, &room[0..n]));
+    count(counts, checked(values, limits(), set, &room[0..n]));
     cut(values, set, &room[0..n], counts);
     change(values, set, &mut room[0..n], counts);
     if n < room.len() {
@@ -138,7 +138,7 @@ fn short_refused(values: &[f64], set: RuleSet, room: &mut [u8]) -> bool {
         return false;
     }
     let shorter = n - 1;
-    let w = write(values, set, &mut room[0..shorter]);
+    let w = write(values, limits(), set, &mut room[0..shorter]);
     w.number() == 6
 }
 
@@ -214,7 +214,7 @@ fn longest() -> u64 {
         return 0;
     }
     let n = sheet_of(&values, set, &mut room);
-    let answer = checked(&values, set, &room[0..n]);
+    let answer = checked(&values, limits(), set, &room[0..n]);
     if answer.number() != 0 {
         return 0;
     }

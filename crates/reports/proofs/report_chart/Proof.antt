@@ -49,7 +49,7 @@ finite c =
 -- ---- what evaluating answered
 
 abbrev start : tie.After-evaluate → tie.Else1
-start c = c .before .before .before .before .before
+start c = c .before .before .before .before .before .before
 
 answer : (c : tie.After-evaluate) → evaluated (c .evaluate .result) ≡ evaluateOf (question (start c)) (short (question (start c) .chart))
 answer c =
@@ -58,8 +58,8 @@ answer c =
     (length-replicate {A = ℕ} 2048 0) (length-replicate {A = ℕ} 2048 0)
 
 -- the points of the second series
-ranges : (c : tie.After-first-index) → question (c .before .before .before .before .before .before .before .before .before .before .before .before .before) .chart .count - c .first-index .result ≡ pointsIn (question (c .before .before .before .before .before .before .before .before .before .before .before .before .before) .chart) 1
-ranges c = ap (λ (n : ℕ). question (c .before .before .before .before .before .before .before .before .before .before .before .before .before) .chart .count - n) (c .first-index .ensures .0) ∙ points-from (question (c .before .before .before .before .before .before .before .before .before .before .before .before .before) .chart)
+ranges : (c : tie.After-first-index) → question (c .before .before .before .before .before .before .before .before .before .before .before .before .before .before) .chart .count - c .first-index .result ≡ pointsIn (question (c .before .before .before .before .before .before .before .before .before .before .before .before .before .before) .chart) 1
+ranges c = ap (λ (n : ℕ). question (c .before .before .before .before .before .before .before .before .before .before .before .before .before .before) .chart .count - n) (c .first-index .ensures .0) ∙ points-from (question (c .before .before .before .before .before .before .before .before .before .before .before .before .before .before) .chart)
 
 -- ---- what is known of an evaluation
 
@@ -90,10 +90,10 @@ abbrev left : tie.After-e → ℕ → Evaluated → List ℕ
 left c s r = lentAfter (evaluated r .number) 0 (seriesMarks (question (first c)) s) (replicate 2048 0)
 
 abbrev marks : tie.After-e → List ℕ
-marks c = evaluating c .evaluate .last .1 .1 .1 .1 .0
+marks c = evaluating c .evaluate .last .1 .1 .1 .1 .1 .0
 
 abbrev others : tie.After-e → List ℕ
-others c = evaluating c .evaluate .last .1 .1 .1 .1 .1 .0
+others c = evaluating c .evaluate .last .1 .1 .1 .1 .1 .1 .0
 
 marks-are : (c : tie.After-e) → take (question (first c) .chart .count - 0) (marks c) ≡ seriesMarks (question (first c)) 0
 marks-are c =
@@ -136,6 +136,9 @@ slice-aggregate-evaluate-3 c = search needs
 slice-aggregate-evaluate-4 : tie.Need-slice-aggregate-evaluate-4
 slice-aggregate-evaluate-4 c = search needs
 
+slice-aggregate-evaluate-5 : tie.Need-slice-aggregate-evaluate-5
+slice-aggregate-evaluate-5 c = search needs
+
 evaluate-requires : tie.Need-evaluate-requires
 evaluate-requires c κs = search needs
 
@@ -158,7 +161,7 @@ first-index-requires : tie.Need-first-index-requires
 first-index-requires c κs = search needs
 
 sub-ranges : tie.Need-sub-ranges
-sub-ranges c = omega (arith, some-points (question (c .before .before .before .before .before .before .before .before .before .before .before .before .before)) (none-refused (c .before .before)), c .first-index .ensures)
+sub-ranges c = omega (arith, some-points (question (c .before .before .before .before .before .before .before .before .before .before .before .before .before .before)) (none-refused (c .before .before)), c .first-index .ensures)
 
 sub-tell : tie.Need-sub-tell
 sub-tell c = search needs
@@ -170,7 +173,7 @@ part-tell-end : tie.Need-part-tell-end
 part-tell-end c =
     let place = c .before .before .before in
     let s = first place in
-    omega (arith, few-samples (question s .chart) (legal s), evaluating place .evaluate .kept .1 .1 .1 .1 .0, length-replicate {A = ℕ} 2048 0)
+    omega (arith, few-samples (question s .chart) (legal s), evaluating place .evaluate .kept .1 .1 .1 .1 .1 .0, length-replicate {A = ℕ} 2048 0)
 
 sub-tell-2 : tie.Need-sub-tell-2
 sub-tell-2 c = search needs
@@ -182,7 +185,7 @@ part-tell-end-2 : tie.Need-part-tell-end-2
 part-tell-end-2 c =
     let place = c .before .before .before .before .before in
     let s = first place in
-    let kept = evaluating place .evaluate .kept .1 .1 .1 .1 .1 .0 in
+    let kept = evaluating place .evaluate .kept .1 .1 .1 .1 .1 .1 .0 in
     omega (arith, points-fit (question s .chart) (legal s) 1, ranges (c .before .before .before), kept, length-replicate {A = ℕ} 2048 0)
 
 tell-requires : tie.Need-tell-requires
@@ -240,6 +243,7 @@ report-chart-spec =
     slice-aggregate-evaluate-2
     slice-aggregate-evaluate-3
     slice-aggregate-evaluate-4
+    slice-aggregate-evaluate-5
     evaluate-requires
     enum-known-why
     number-requires

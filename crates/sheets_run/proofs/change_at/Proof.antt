@@ -24,8 +24,8 @@ slice-write-sheet c = search needs
 limits-requires : tie.Need-limits-requires Inv-loop μ-loop
 limits-requires c κs = search needs
 
-check-requires : tie.Need-check-requires Inv-loop μ-loop
-check-requires c κs = search needs
+checked-requires : tie.Need-checked-requires Inv-loop μ-loop
+checked-requires c κs = search needs
 
 count-requires : tie.Need-count-requires Inv-loop μ-loop
 count-requires c κs = search needs
@@ -58,7 +58,7 @@ change-at-spec =
     loop-holds
     slice-write-sheet
     limits-requires
-    check-requires
+    checked-requires
     count-requires
     sub-by
     loop-less

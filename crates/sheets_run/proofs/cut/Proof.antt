@@ -17,17 +17,17 @@ loop-holds c = search needs
 limits-requires : tie.Need-limits-requires Inv-loop μ-loop
 limits-requires c κs = search needs
 
-sub-check : tie.Need-sub-check Inv-loop μ-loop
-sub-check c = search needs
+sub-checked : tie.Need-sub-checked Inv-loop μ-loop
+sub-checked c = search needs
 
-part-check-start : tie.Need-part-check-start Inv-loop μ-loop
-part-check-start c = search needs
+part-checked-start : tie.Need-part-checked-start Inv-loop μ-loop
+part-checked-start c = search needs
 
-part-check-end : tie.Need-part-check-end Inv-loop μ-loop
-part-check-end c = search needs
+part-checked-end : tie.Need-part-checked-end Inv-loop μ-loop
+part-checked-end c = search needs
 
-check-requires : tie.Need-check-requires Inv-loop μ-loop
-check-requires c κs = search needs
+checked-requires : tie.Need-checked-requires Inv-loop μ-loop
+checked-requires c κs = search needs
 
 count-requires : tie.Need-count-requires Inv-loop μ-loop
 count-requires c κs = search needs
@@ -52,10 +52,10 @@ cut-spec =
     μ-loop
     loop-holds
     limits-requires
-    sub-check
-    part-check-start
-    part-check-end
-    check-requires
+    sub-checked
+    part-checked-start
+    part-checked-end
+    checked-requires
     count-requires
     add-n
     loop-less

@@ -24,8 +24,8 @@ slice-write-room c = search needs
 limits-requires : tie.Need-limits-requires Inv-loop μ-loop
 limits-requires c κs = search needs
 
-check-requires : tie.Need-check-requires Inv-loop μ-loop
-check-requires c κs = search needs
+checked-requires : tie.Need-checked-requires Inv-loop μ-loop
+checked-requires c κs = search needs
 
 count-requires : tie.Need-count-requires Inv-loop μ-loop
 count-requires c κs = search needs
@@ -45,8 +45,8 @@ slice-write-room-2 c = search needs
 limits-requires-2 : tie.Need-limits-requires-2 Inv-loop μ-loop
 limits-requires-2 c κs = search needs
 
-check-requires-2 : tie.Need-check-requires-2 Inv-loop μ-loop
-check-requires-2 c κs = search needs
+checked-requires-2 : tie.Need-checked-requires-2 Inv-loop μ-loop
+checked-requires-2 c κs = search needs
 
 count-requires-2 : tie.Need-count-requires-2 Inv-loop μ-loop
 count-requires-2 c κs = search needs
@@ -67,14 +67,14 @@ extend-spec =
     loop-holds
     slice-write-room
     limits-requires
-    check-requires
+    checked-requires
     count-requires
     sub-more
     loop-less
     loop-again
     slice-write-room-2
     limits-requires-2
-    check-requires-2
+    checked-requires-2
     count-requires-2
     same-length
     returns)
