@@ -11,8 +11,8 @@ use Rattle.groups.specs.declared.Reading.{Reading}
 use Rattle.groups.specs.declared.Reading.the-variants as groups
 use Rattle.groups.specs.Groups.{numberAt}
 use Rattle.lists.specs.declared.Item.{Item}
-use Rattle.lists.specs.declared.Item.the-variants.{Format, Cases, Answer, End}
-use Rattle.lists.specs.declared.Why.the-variants.{Cut, Form, Range, NoAnswer, NotFinite, LeftOver, TooLong}
+use Rattle.lists.specs.declared.Item.the-variants.{Format, Cases, Tag, Answer, End}
+use Rattle.lists.specs.declared.Why.the-variants.{Cut, Form, Range, Unlisted, NotFinite, LeftOver, TooLong}
 use Rattle.lists.specs.declared.Fault.{Fault}
 use Rattle.lists.specs.Found.{Found, read, fault, wrong, onward}
 
@@ -38,10 +38,18 @@ unfoldable pub smallFrom : List ℕ → Item → ℕ → ℕ → ℕ → Found �
 smallFrom list item low high at =
     onward (numberFrom list item at) (λ v next. cond (leb low v && leb v high) (read v next) (wrong at item (Range v low high)))
 
+-- what was read, where lists have it there
+abbrev pub listedAt : ℕ → Item → Bool → ℕ → ℕ → Found ℕ
+listedAt at item have v next = cond have (read v next) (wrong at item (Unlisted v))
+
+-- "its tag": that of a case, or of such a case "with stops"
+unfoldable pub tagFrom : List ℕ → ℕ → ℕ → ℕ → Found ℕ
+tagFrom list plain stopped at =
+    onward (smallFrom list Tag plain stopped at) (λ v next. listedAt at Tag (eqb v plain || eqb v stopped) v next)
+
 -- "01's number": 0, or 7 to high
 unfoldable pub answerFrom : List ℕ → ℕ → ℕ → Found ℕ
-answerFrom list high at =
-    onward (smallFrom list Answer 0 high at) (λ v next. cond (eqb v 0 || leb 7 v) (read v next) (wrong at Answer (NoAnswer v)))
+answerFrom list high at = onward (smallFrom list Answer 0 high at) (λ v next. listedAt at Answer (eqb v 0 || leb 7 v) v next)
 
 -- ---- an f64, which "stands as its bits, read as one number"; "No NaN and no infinity stands in a list"
 
@@ -65,6 +73,9 @@ following (fault f) rest = ([], fault f)
 unfoldable pub rowFrom : {A : Type 0} → (ℕ → Found A) → ℕ → ℕ → List A × Found Unit
 rowFrom one zero at = ([], read tt at)
 rowFrom one (suc n) at = following (one at) (rowFrom one n)
+
+abbrev pub numbersFrom : List ℕ → Item → ℕ → ℕ → List ℕ × Found Unit
+numbersFrom list item n at = rowFrom (numberFrom list item) n at
 
 abbrev pub floatsFrom : List ℕ → Item → ℕ → ℕ → List Float × Found Unit
 floatsFrom list item n at = rowFrom (floatFrom list item) n at

@@ -25,8 +25,8 @@ ghost use mathlib.Core.Path.{_≡_};
 ghost use lib.ListN.{length};
 ghost use Rattle.laws.specs.Front.{atFront};
 ghost use Rattle.lists.specs.Found.{ofNumber, ofSmall, ofFloat, ofBytes, ofPassed};
-ghost use Rattle.lists.specs.Reading.{cut, noNumber, numberFrom, smallFrom, answerFrom, floatFrom, bytesFrom};
-ghost use Rattle.lists.specs.Reading.{floatsFrom, rowFrom, openingOf, closingFrom};
+ghost use Rattle.lists.specs.Reading.{cut, noNumber, numberFrom, smallFrom, listedAt, tagFrom, answerFrom, floatFrom};
+ghost use Rattle.lists.specs.Reading.{bytesFrom, floatsFrom, numbersFrom, openingOf, closingFrom};
 ghost use Rattle.lists.specs.Taken.{AtMost, Within};
 
 /// Bytes of the longest list.
@@ -40,6 +40,9 @@ pub enum Item {
     Format,
     Cases,
     Tag,
+    Moving,
+    Stops,
+    Stop,
     Kind,
     Size,
     Set,
@@ -61,8 +64,8 @@ pub enum Why {
     Form,
     /// The number is `value` and ought to be `low` to `high`.
     Range { value: u64, low: u16, high: u16 },
-    /// The number is `value` and ought to be an answer that a list has.
-    NoAnswer { value: u64 },
+    /// The number is `value`, which no list has there.
+    Unlisted { value: u64 },
     /// The number is an f64's bits, and the f64 is not finite.
     NotFinite,
     /// Bytes follow the end.
@@ -202,26 +205,42 @@ pub fn read_small(list: &[u8], at: usize, item: Item, low: u16, high: u16) -> Sm
     }
 }
 
+// What was read at the place `at`, where lists have it there.
+fn listed(at: usize, item: Item, number: Narrow, have: bool) -> Small
+    ensures { λ r. ⌜ ofSmall r ≡ listedAt at item have (number .value) (number .next) ⌝ }
+{
+    if have {
+        return Small::Read(number);
+    }
+    let value = number.value as u64;
+    Small::Fault(Fault {
+        at,
+        item,
+        why: Why::Unlisted { value },
+    })
+}
+
+/// Reads the tag at the place `at`: that of a case, or of such a case with stops.
+pub fn read_tag(list: &[u8], at: usize, plain: u16, stopped: u16) -> Small
+    ensures { λ r. ⌜ ofSmall r ≡ tagFrom (now (list .entry)) plain stopped at ⌝ }
+{
+    match read_small(list, at, Item::Tag, plain, stopped) {
+        Small::Read(tag) => {
+            let value = tag.value;
+            listed(at, Item::Tag, tag, (value == plain) | (value == stopped))
+        }
+        Small::Fault(fault) => Small::Fault(fault),
+    }
+}
+
 /// Reads the answer at the place `at`: 01's number, which has to be 0, or 7 to `high`.
 pub fn read_answer(list: &[u8], at: usize, high: u16) -> Small
     ensures { λ r. ⌜ ofSmall r ≡ answerFrom (now (list .entry)) high at ⌝ }
 {
     match read_small(list, at, Item::Answer, 0, high) {
-        Small::Read(read) => {
-            let value = read.value;
-            if value == 0 {
-                return Small::Read(read);
-            }
-            if value < 7 {
-                return Small::Fault(Fault {
-                    at,
-                    item: Item::Answer,
-                    why: Why::NoAnswer {
-                        value: value as u64,
-                    },
-                });
-            }
-            Small::Read(read)
+        Small::Read(answer) => {
+            let value = answer.value;
+            listed(at, Item::Answer, answer, (value == 0) | (7 <= value))
         }
         Small::Fault(fault) => Small::Fault(fault),
     }
@@ -270,9 +289,29 @@ pub fn read_floats(list: &[u8], at: usize, item: Item, out: &mut [f64]) -> Passe
     Passed::Next(next_at)
 }
 
+/// Reads as many positions as `out` has room for, which may be any numbers. Those before a fault stand at its front.
+pub fn read_positions(list: &[u8], at: usize, item: Item, out: &mut [usize]) -> Passed
+    ensures { λ r. ⌜ ofPassed r ≡ numbersFrom (now (list .entry)) item (length (now (out .entry))) at .1 ⌝ }
+    ensures values { λ r. ⌜ now (out .exit) ≡ atFront (numbersFrom (now (list .entry)) item (length (now (out .entry))) at .0) (now (out .entry)) ⌝ }
+{
+    let mut next_at = at;
+    let mut i = 0;
+    while i < out.len() {
+        match read_number(list, next_at, item) {
+            Number::Read(read) => {
+                out[i] = read.value as usize;
+                next_at = read.next;
+            }
+            Number::Fault(fault) => return Passed::Fault(fault),
+        }
+        i += 1;
+    }
+    Passed::Next(next_at)
+}
+
 /// Passes over n numbers.
 pub fn pass_numbers(list: &[u8], at: usize, item: Item, n: usize) -> Passed
-    ensures { λ r. ⌜ ofPassed r ≡ rowFrom (numberFrom (now (list .entry)) item) n at .1 ⌝ }
+    ensures { λ r. ⌜ ofPassed r ≡ numbersFrom (now (list .entry)) item n at .1 ⌝ }
 {
     let mut next_at = at;
     let mut i = 0;

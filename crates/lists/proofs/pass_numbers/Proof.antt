@@ -4,14 +4,14 @@ use mathlib.Core.Path.{_≡_, sym, ap, _∙_}
 use Prim.Native.Nat.{ℕ, _-_}
 use native.Mathlib.Omega.{arith}
 use Rattle.lists.specs.Found.{ofNumber}
-use Rattle.lists.specs.Reading.{numberFrom, rowFrom}
+use Rattle.lists.specs.Reading.{numberFrom, numbersFrom}
 use Rattle.lists.proofs.Rows.{row-none, row-next}
 use borrow.Author.Needs.{needs}
 use Rattle.lists.proofs.pass_numbers.Statement.{statement}
 use Rattle.lists.proofs.pass_numbers.Tie as tie
 
 abbrev Inv-loop : tie.InvT-loop
-Inv-loop list at item n next-at₀ i₀ next-at i = rowFrom (numberFrom list item) (n - i) next-at .1 ≡ rowFrom (numberFrom list item) n at .1
+Inv-loop list at item n next-at₀ i₀ next-at i = numbersFrom list item (n - i) next-at .1 ≡ numbersFrom list item n at .1
 
 abbrev μ-loop : tie.MeasureT-loop
 μ-loop list at item n next-at₀ i₀ next-at i = n - i
@@ -20,7 +20,7 @@ loop-holds : tie.Need-loop-holds Inv-loop μ-loop
 loop-holds c =
     let a = c .before .args in
     let all : a .n - 0 ≡ a .n = omega arith in
-    ap (λ (m : ℕ). rowFrom (numberFrom (a .list .now) (a .item)) m (a .at) .1) all
+    ap (λ (m : ℕ). numbersFrom (a .list .now) (a .item) m (a .at) .1) all
 
 read-number-requires : tie.Need-read-number-requires Inv-loop μ-loop
 read-number-requires c κs = search needs
