@@ -1,12 +1,15 @@
-//! 01's table of tests, window by window as it stands there, to be held against the Rust's runs.
+//! 01's table of tests, window by window as it stands there: for series with stops, and to be held
+//! against the Rust's runs where there are none.
 
 use crate::case::{Limits, MarksCase};
 use crate::scope::WINDOWS;
+use std::ops::Range;
 
-pub fn marks(case: &MarksCase) -> Vec<u16> {
+/// The marks of windows that `may_show` their pattern; it is told the positions of each.
+pub fn marks(case: &MarksCase, may_show: impl Fn(Range<usize>) -> bool) -> Vec<u16> {
     let stands = |test: usize, end: usize| {
-        let fits = end >= WINDOWS[test];
-        fits && shows(test, &case.limits, &case.values[end - WINDOWS[test]..end])
+        let Some(start) = end.checked_sub(WINDOWS[test]) else { return false };
+        shows(test, &case.limits, &case.values[start..end]) && may_show(start..end)
     };
     let in_set = |test: &usize| case.set & (1 << test) != 0;
     let at = |end: usize| (0..9).filter(in_set).filter(|&t| stands(t, end)).map(|t| 1 << t).sum();
@@ -20,9 +23,8 @@ fn shows(test: usize, l: &Limits, window: &[f64]) -> bool {
     let count = |pattern: &dyn Fn(f64) -> bool| window.iter().filter(|&&v| pattern(v)).count();
     let rises: Vec<bool> = window.windows(2).map(|w| w[1] > w[0]).collect();
     let falls: Vec<bool> = window.windows(2).map(|w| w[1] < w[0]).collect();
-    let by_turns = |odd: &[bool], even: &[bool]| {
-        (0..rises.len()).all(|i| if i % 2 == 0 { even[i] } else { odd[i] })
-    };
+    let by_turns =
+        |odd: &[bool], even: &[bool]| (0..rises.len()).all(|i| if i % 2 == 0 { even[i] } else { odd[i] });
     match test {
         0 => window[0] > l.ucl || window[0] < l.lcl,
         1 | 8 => all(&|v| v > l.cl) || all(&|v| v < l.cl),

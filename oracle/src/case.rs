@@ -42,13 +42,34 @@ impl ChartCase {
     }
 }
 
+/// Values to be marked as a series that has stops (02, R-1) and may be a moving range.
+#[derive(Clone)]
+pub struct StoppedMarks {
+    pub moving: bool,
+    pub stops: Vec<u64>,
+    pub marks: MarksCase,
+}
+
+/// A chart whose record counts `count` stops, with the list that is lent for them.
+#[derive(Clone)]
+pub struct StoppedChart {
+    pub count: u64,
+    pub list: Vec<u64>,
+    pub chart: ChartCase,
+}
+
 #[derive(Clone)]
 pub enum Case {
     Marks(MarksCase),
     Chart(ChartCase),
+    StoppedMarks(StoppedMarks),
+    StoppedChart(StoppedChart),
     /// The bytes that the report program is given: a flow file, or none.
     Flow(Vec<u8>),
 }
+
+/// A sigma figure, or 01's number for its refusal.
+pub type Figure = Result<f64, u8>;
 
 /// Everything that is answered for a chart that can be evaluated.
 pub struct Evaluation {
@@ -60,16 +81,17 @@ pub struct Evaluation {
     pub dispersion_marks: Vec<u16>,
     pub number_of_marks: usize,
     pub in_control: bool,
-    /// Each sigma figure, or nothing where 01 answers 7 for it.
-    pub sigma_hat: Option<f64>,
-    pub sigma_hat_df: Option<f64>,
+    pub sigma_hat: Figure,
+    pub sigma_hat_df: Figure,
 }
 
 pub enum Answer {
     /// One number a value; bit b stands for test b of 01's table.
     Marks(Vec<u16>),
-    /// 01's number 7 or 8.
+    /// 01's number 7 or 8; of values with stops 15.
     Refused(u8),
+    /// 15 of a chart, with sigma_hat and sigma_hat_df: these take no stops and answer all the same.
+    BadStops([Figure; 2]),
     Evaluated(Evaluation),
     /// The report's text.
     Report(Vec<u8>),

@@ -1,14 +1,14 @@
-//! Holds stored answers against the Rust's own.
+//! Holds stored answers against the right ones.
 
-use crate::case::{Answer, Case, Evaluation, Limits, MarksCase};
+use crate::case::{Answer, Case, Evaluation, Figure, Limits, MarksCase};
 use crate::format::Judged;
-use crate::scope::WINDOWS;
+use crate::scope::{self, WINDOWS};
 use crate::{judge, show};
 
 /// Values of an input that a line shows: enough for any window.
 const SHOWN: usize = 40;
 
-/// One line for each case whose stored answer is not the Rust's: 'case K: ..', K counted from 0.
+/// One line for each case whose stored answer is not the right one: 'case K: ..', K counted from 0.
 pub fn disagreements(list: &[Judged]) -> Vec<String> {
     let one = |(k, (case, stored)): (usize, &Judged)| {
         difference(case, stored).map(|told| format!("case {k}: {told}"))
@@ -18,21 +18,15 @@ pub fn disagreements(list: &[Judged]) -> Vec<String> {
 
 fn difference(case: &Case, stored: &Answer) -> Option<String> {
     let right = judge::answer(case);
-    match (case, stored, &right) {
-        (Case::Marks(c), Answer::Marks(s), Answer::Marks(r)) => marks_difference(c, s, r),
-        (Case::Flow(_), Answer::Report(s), Answer::Report(r)) => {
-            let told = part_difference("line", &lines(s), &lines(r))?;
-            Some(format!("{told}; input: {}", show::case(case, SHOWN)))
-        }
-        (_, Answer::Evaluated(s), Answer::Evaluated(r)) => {
-            let told = evaluation_difference(s, r)?;
-            Some(format!("{told}; input: {}", show::case(case, SHOWN)))
-        }
-        _ => {
-            let (s, r) = (number(stored), number(&right));
-            (s != r).then(|| format!("answer: stored {s}, Rust {r}; input: {}", show::case(case, SHOWN)))
-        }
-    }
+    let told = match (case, stored, &right) {
+        (Case::Marks(c), Answer::Marks(s), Answer::Marks(r)) => return marks_difference(c, s, r),
+        (_, Answer::Marks(s), Answer::Marks(r)) => part_difference("marks", s, r),
+        (_, Answer::Report(s), Answer::Report(r)) => part_difference("line", &lines(s), &lines(r)),
+        (_, Answer::Evaluated(s), Answer::Evaluated(r)) => evaluation_difference(s, r),
+        (_, Answer::BadStops(s), Answer::BadStops(r)) => figures_difference(*s, *r),
+        _ => part_difference("answer", &[number(stored)], &[number(&right)]),
+    };
+    told.map(|told| format!("{told}; input: {}", show::case(case, SHOWN)))
 }
 
 /// The lines of a text, each with what ends it.
@@ -43,6 +37,7 @@ fn lines(text: &[u8]) -> Vec<String> {
 fn number(answer: &Answer) -> u8 {
     match answer {
         Answer::Refused(number) => *number,
+        Answer::BadStops(_) => scope::BAD_STOPS,
         _ => 0,
     }
 }
@@ -53,7 +48,7 @@ fn marks_difference(case: &MarksCase, stored: &[u16], right: &[u16]) -> Option<S
     let (s, r) = (stored[at], right[at]);
     let test = (s ^ r).trailing_zeros() as usize;
     let smallest = show::marks_case(&smallest(case, at, test, r), SHOWN);
-    Some(format!("marks at {at}: stored {s}, Rust {r} (test {test}); smallest input: {smallest}"))
+    Some(format!("marks at {at}: stored {s}, right {r} (test {test}); smallest input: {smallest}"))
 }
 
 /// As few of the values that end at `at` as give the Rust's mark there for that test alone: its
@@ -81,8 +76,13 @@ fn evaluation_difference(s: &Evaluation, r: &Evaluation) -> Option<String> {
         .or_else(|| part_difference("dispersion marks", &s.dispersion_marks, &r.dispersion_marks))
         .or_else(|| part_difference("number of marks", &[s.number_of_marks], &[r.number_of_marks]))
         .or_else(|| part_difference("in control", &[s.in_control], &[r.in_control]))
-        .or_else(|| part_difference("sigma_hat", &figure(s.sigma_hat), &figure(r.sigma_hat)))
-        .or_else(|| part_difference("sigma_hat_df", &figure(s.sigma_hat_df), &figure(r.sigma_hat_df)))
+        .or_else(|| figures_difference([s.sigma_hat, s.sigma_hat_df], [r.sigma_hat, r.sigma_hat_df]))
+}
+
+/// Of sigma_hat and sigma_hat_df.
+fn figures_difference(s: [Figure; 2], r: [Figure; 2]) -> Option<String> {
+    let bits = |figure: Figure| figure.map(|x| Bits(x.to_bits()));
+    part_difference("sigma figure", &s.map(bits), &r.map(bits))
 }
 
 fn limits_difference(series: &str, s: &Limits, r: &Limits) -> Option<String> {
@@ -94,7 +94,7 @@ where
     T: PartialEq + std::fmt::Debug,
 {
     let at = first_difference(s, r)?;
-    Some(format!("{what} {at}: stored {}, Rust {}", entry(s, at), entry(r, at)))
+    Some(format!("{what} {at}: stored {}, right {}", entry(s, at), entry(r, at)))
 }
 
 fn entry<T: std::fmt::Debug>(list: &[T], at: usize) -> String {
@@ -103,10 +103,6 @@ fn entry<T: std::fmt::Debug>(list: &[T], at: usize) -> String {
 
 fn bits(values: &[f64]) -> Vec<Bits> {
     values.iter().map(|v| Bits(v.to_bits())).collect()
-}
-
-fn figure(x: Option<f64>) -> Vec<Bits> {
-    x.iter().map(|v| Bits(v.to_bits())).collect()
 }
 
 /// An f64 by its bits: -0.0 is not +0.0 here.

@@ -1,6 +1,8 @@
 //! The list as bytes; oracle/FORMAT.md describes the form. Every number is in groups of seven bits.
 
-use crate::case::{Answer, Case, ChartCase, Evaluation, Limits, MarksCase};
+use crate::case::{
+    Answer, Case, ChartCase, Evaluation, Figure, Limits, MarksCase, StoppedChart, StoppedMarks,
+};
 use crate::scope;
 
 const FORMAT: u64 = 1;
@@ -8,6 +10,11 @@ const END: u64 = 0;
 const MARKS: u64 = 1;
 const CHART: u64 = 2;
 const FLOW: u64 = 3;
+const STOPPED_MARKS: u64 = 4;
+const STOPPED_CHART: u64 = 5;
+
+/// What leads an answer that is no refusal.
+const DONE: u64 = 0;
 
 /// More groups than this hold more than 64 bits.
 const MOST_GROUPS: usize = 10;
@@ -39,7 +46,7 @@ pub fn write(cases: &[Judged]) -> Vec<Vec<u8>> {
     for (case, answer) in cases {
         let mut bytes = Vec::new();
         put_case(&mut bytes, case);
-        put_answer(&mut bytes, answer);
+        put_answer(&mut bytes, case, answer);
         if held > 0 && body.len() + bytes.len() + AROUND > MOST_BYTES {
             lists.push(closed(&body, held));
             (body, held) = (Vec::new(), 0);
@@ -82,23 +89,51 @@ fn put_case(out: &mut Vec<u8>, case: &Case) {
     match case {
         Case::Marks(c) => {
             put(out, MARKS);
-            put(out, c.set.into());
-            put_limits(out, &c.limits);
-            put(out, c.values.len() as u64);
-            put_floats(out, &c.values);
+            put_marks_case(out, c);
         }
         Case::Chart(c) => {
             put(out, CHART);
-            put(out, c.kind.into());
-            put(out, c.size as u64);
-            put(out, c.set.into());
-            put(out, c.count() as u64);
-            put_floats(out, &c.values);
+            put_chart_case(out, c);
         }
         Case::Flow(bytes) => {
             put(out, FLOW);
             put_bytes(out, bytes);
         }
+        Case::StoppedMarks(c) => {
+            put(out, STOPPED_MARKS);
+            put(out, c.moving.into());
+            put_stops(out, &c.stops);
+            put_marks_case(out, &c.marks);
+        }
+        Case::StoppedChart(c) => {
+            put(out, STOPPED_CHART);
+            put(out, c.count);
+            put_stops(out, &c.list);
+            put_chart_case(out, &c.chart);
+        }
+    }
+}
+
+fn put_marks_case(out: &mut Vec<u8>, c: &MarksCase) {
+    put(out, c.set.into());
+    put_limits(out, &c.limits);
+    put(out, c.values.len() as u64);
+    put_floats(out, &c.values);
+}
+
+fn put_chart_case(out: &mut Vec<u8>, c: &ChartCase) {
+    put(out, c.kind.into());
+    put(out, c.size as u64);
+    put(out, c.set.into());
+    put(out, c.count() as u64);
+    put_floats(out, &c.values);
+}
+
+/// A list of stops, led by how many they are.
+fn put_stops(out: &mut Vec<u8>, stops: &[u64]) {
+    put(out, stops.len() as u64);
+    for &p in stops {
+        put(out, p);
     }
 }
 
@@ -108,12 +143,22 @@ fn put_bytes(out: &mut Vec<u8>, bytes: &[u8]) {
     out.extend(bytes);
 }
 
-fn put_answer(out: &mut Vec<u8>, answer: &Answer) {
+fn put_answer(out: &mut Vec<u8>, case: &Case, answer: &Answer) {
     match answer {
-        Answer::Marks(marks) => put_marks(out, marks),
+        Answer::Marks(marks) => {
+            // Without stops no marks case is refused, and no number says so.
+            if let Case::StoppedMarks(_) = case {
+                put(out, DONE);
+            }
+            put_marks(out, marks);
+        }
         Answer::Refused(number) => put(out, (*number).into()),
+        Answer::BadStops(figures) => {
+            put(out, scope::BAD_STOPS.into());
+            figures.iter().for_each(|&figure| put_figure(out, figure));
+        }
         Answer::Evaluated(e) => {
-            put(out, 0);
+            put(out, DONE);
             put_evaluation(out, e);
         }
         Answer::Report(text) => put_bytes(out, text),
@@ -134,13 +179,13 @@ fn put_evaluation(out: &mut Vec<u8>, e: &Evaluation) {
     put_figure(out, e.sigma_hat_df);
 }
 
-fn put_figure(out: &mut Vec<u8>, figure: Option<f64>) {
+fn put_figure(out: &mut Vec<u8>, figure: Figure) {
     match figure {
-        Some(x) => {
-            put(out, 0);
+        Ok(x) => {
+            put(out, DONE);
             put(out, x.to_bits());
         }
-        None => put(out, scope::NOT_FINITE.into()),
+        Err(number) => put(out, number.into()),
     }
 }
 
@@ -160,12 +205,14 @@ pub fn read(bytes: &[u8]) -> Result<Vec<Judged>, Fault> {
     let stated = r.number("number of cases")?;
     let mut list = Vec::new();
     loop {
-        match r.number_within(END, FLOW, "tag")? {
+        list.push(match r.number_within(END, STOPPED_CHART, "tag")? {
             END => break,
-            MARKS => list.push(r.marks_case()?),
-            CHART => list.push(r.chart_case()?),
-            _ => list.push(r.flow_case()?),
-        }
+            MARKS => r.marks_case()?,
+            CHART => r.chart_case()?,
+            FLOW => r.flow_case()?,
+            STOPPED_MARKS => r.stopped_marks()?,
+            _ => r.stopped_chart()?,
+        });
     }
     if list.len() as u64 != stated {
         let why = format!("{stated} cases are stated, {} stand there", list.len());
@@ -250,25 +297,63 @@ impl Reader<'_> {
         Ok(Limits { ucl, cl, lcl })
     }
 
-    fn marks_case(&mut self) -> Result<Judged, Fault> {
+    fn stops(&mut self) -> Result<Vec<u64>, Fault> {
+        let n = self.count("number of stops")?;
+        (0..n).map(|_| self.number("stop")).collect()
+    }
+
+    fn marks_asked(&mut self) -> Result<MarksCase, Fault> {
         let set = self.set()?;
         let limits = self.limits()?;
         let n = self.count("number of values")?;
-        let values = self.floats(n, "value")?;
-        let marks = self.marks(n)?;
-        Ok((Case::Marks(MarksCase { set, limits, values }), Answer::Marks(marks)))
+        Ok(MarksCase { set, limits, values: self.floats(n, "value")? })
     }
 
-    fn chart_case(&mut self) -> Result<Judged, Fault> {
+    fn chart_asked(&mut self) -> Result<ChartCase, Fault> {
         let kind = self.number_within(1, 3, "kind")?;
         let (smallest, largest) = scope::sizes(kind);
         let size = self.number_within(smallest, largest, "size")? as usize;
         let set = self.set()?;
         let count = self.count("number of samples")?;
-        let values = self.floats(count * size, "value")?;
-        let answer = self.chart_answer(count)?;
-        let kind = kind as u8;
-        Ok((Case::Chart(ChartCase { kind, size, set, values }), answer))
+        Ok(ChartCase { kind: kind as u8, size, set, values: self.floats(count * size, "value")? })
+    }
+
+    fn marks_case(&mut self) -> Result<Judged, Fault> {
+        let case = self.marks_asked()?;
+        let marks = self.marks(case.values.len())?;
+        Ok((Case::Marks(case), Answer::Marks(marks)))
+    }
+
+    fn chart_case(&mut self) -> Result<Judged, Fault> {
+        let case = self.chart_asked()?;
+        let answer = match self.answer(&[DONE, 7, 8])? {
+            DONE => Answer::Evaluated(self.evaluation(case.count())?),
+            number => Answer::Refused(number as u8),
+        };
+        Ok((Case::Chart(case), answer))
+    }
+
+    fn stopped_marks(&mut self) -> Result<Judged, Fault> {
+        let moving = self.number_within(0, 1, "moving")? == 1;
+        let stops = self.stops()?;
+        let marks = self.marks_asked()?;
+        let answer = match self.answer(&[DONE, 15])? {
+            DONE => Answer::Marks(self.marks(marks.values.len())?),
+            number => Answer::Refused(number as u8),
+        };
+        Ok((Case::StoppedMarks(StoppedMarks { moving, stops, marks }), answer))
+    }
+
+    fn stopped_chart(&mut self) -> Result<Judged, Fault> {
+        let count = self.number("count of stops")?;
+        let list = self.stops()?;
+        let chart = self.chart_asked()?;
+        let answer = match self.answer(&[DONE, 7, 8, 15])? {
+            DONE => Answer::Evaluated(self.evaluation(chart.count())?),
+            15 => Answer::BadStops([self.figure()?, self.figure()?]),
+            number => Answer::Refused(number as u8),
+        };
+        Ok((Case::StoppedChart(StoppedChart { count, list, chart }), answer))
     }
 
     fn flow_case(&mut self) -> Result<Judged, Fault> {
@@ -287,14 +372,14 @@ impl Reader<'_> {
         Ok(bytes.to_vec())
     }
 
-    fn chart_answer(&mut self, count: usize) -> Result<Answer, Fault> {
+    /// A number that leads an answer: one of those that a list has there.
+    fn answer(&mut self, listed: &[u64]) -> Result<u64, Fault> {
         let start = self.at;
-        match self.number("answer")? {
-            0 => Ok(Answer::Evaluated(self.evaluation(count)?)),
-            7 => Ok(Answer::Refused(scope::NOT_FINITE)),
-            8 => Ok(Answer::Refused(scope::TOO_FEW)),
-            other => self.fault(start, format!("answer is {other}, not 0, 7 or 8")),
+        let number = self.number("answer")?;
+        if !listed.contains(&number) {
+            return self.fault(start, format!("answer is {number}, not one of {listed:?}"));
         }
+        Ok(number)
     }
 
     fn evaluation(&mut self, count: usize) -> Result<Evaluation, Fault> {
@@ -309,17 +394,15 @@ impl Reader<'_> {
             dispersion_marks: self.marks(points)?,
             number_of_marks: self.number("number of marks")? as usize,
             in_control: self.number_within(0, 1, "in control")? == 1,
-            sigma_hat: self.figure("sigma_hat")?,
-            sigma_hat_df: self.figure("sigma_hat_df")?,
+            sigma_hat: self.figure()?,
+            sigma_hat_df: self.figure()?,
         })
     }
 
-    fn figure(&mut self, what: &str) -> Result<Option<f64>, Fault> {
-        let start = self.at;
-        match self.number(what)? {
-            0 => Ok(Some(self.float(what)?)),
-            7 => Ok(None),
-            other => self.fault(start, format!("{what} is led by {other}, not 0 or 7")),
-        }
+    fn figure(&mut self) -> Result<Figure, Fault> {
+        Ok(match self.answer(&[DONE, 7, 8])? {
+            DONE => Ok(self.float("sigma figure")?),
+            number => Err(number as u8),
+        })
     }
 }

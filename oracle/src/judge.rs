@@ -1,7 +1,7 @@
-//! Puts a case to the published Rust and takes down what it says.
+//! Puts a case to the published Rust and takes down what it says. What stops make of it is 02's (stops.rs).
 
 use crate::case::{Answer, Case, ChartCase, Evaluation, Limits, MarksCase};
-use crate::{report, scope};
+use crate::{report, scope, stops};
 use u_analytics::spc::chart::{ChartPoint, ControlChart, ControlLimits, ViolationType};
 use u_analytics::spc::rules::{RuleSet, RunRule};
 use u_analytics::spc::variables::{IndividualMRChart, XBarRChart, XBarSChart};
@@ -10,6 +10,8 @@ pub fn answer(case: &Case) -> Answer {
     match case {
         Case::Marks(c) => Answer::Marks(marks(c)),
         Case::Chart(c) => chart(c),
+        Case::StoppedMarks(c) => stops::marks(c),
+        Case::StoppedChart(c) => stops::chart(c),
         Case::Flow(bytes) => Answer::Report(report::text(bytes)),
     }
 }

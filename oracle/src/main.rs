@@ -1,6 +1,5 @@
 //! The judge: the published Rust, asked by cases that are read and written as bytes.
 
-#[cfg(test)]
 mod by_01;
 mod case;
 mod cases;
@@ -13,6 +12,7 @@ mod scope;
 mod sheet;
 mod show;
 mod smaller;
+mod stops;
 #[cfg(test)]
 mod tests;
 mod trials;

@@ -1,15 +1,19 @@
-//! What is document 01's and not the Rust's: the two refusals that a stored chart may have.
+//! What is document 01's and not the Rust's: the refusals that a stored chart may have.
 //!
 //! Refusal 8 has its twin in the Rust, which then has no limits. Refusal 7 has none: the Rust goes
-//! on with infinities and NaN. Every other refusal of 01 is kept out of the cases.
+//! on with infinities and NaN. 15 is 02's (stops.rs decides it). Every other refusal is kept out of the
+//! cases.
 
-use crate::case::Evaluation;
+use crate::case::{Evaluation, Figure};
 
 /// 'a computed point or limit is not finite'
 pub const NOT_FINITE: u8 = 7;
 
 /// 'no subgroup, or fewer than 2 observations'
 pub const TOO_FEW: u8 = 8;
+
+/// 'stops not strictly rising, outside 1 to the main series' points less one, or more than the list holds'
+pub const BAD_STOPS: u8 = 15;
 
 /// 01's bound on values, samples and points.
 pub const MOST: usize = 4096;
@@ -26,10 +30,10 @@ pub fn is_finite(seen: &Evaluation) -> bool {
     points().all(|v| v.is_finite()) && seen.main_limits.are_finite() && seen.dispersion_limits.are_finite()
 }
 
-/// A sigma figure, or nothing where it is not finite, which 01 answers with 7. With finite limits
-/// both figures are finite (oracle/FORMAT.md says why), so no stored case has the second.
-pub fn figure(x: f64) -> Option<f64> {
-    x.is_finite().then_some(x)
+/// A sigma figure; 01 answers 7 where it is not finite. With finite limits both figures are finite
+/// (oracle/FORMAT.md says why), so no stored case has that.
+pub fn figure(x: f64) -> Figure {
+    x.is_finite().then_some(x).ok_or(NOT_FINITE)
 }
 
 /// The smallest and the largest size that 01 allows for a kind.

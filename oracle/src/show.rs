@@ -1,12 +1,14 @@
 //! A case as one line for a reader. An f64 is shown in the shortest decimals that give it back.
 //! `most` is the number of values shown; two dots stand for the others.
 
-use crate::case::{Case, ChartCase, MarksCase};
+use crate::case::{Case, ChartCase, MarksCase, StoppedChart, StoppedMarks};
 
 pub fn case(case: &Case, most: usize) -> String {
     match case {
         Case::Marks(c) => marks_case(c, most),
         Case::Chart(c) => chart_case(c, most),
+        Case::StoppedMarks(c) => stopped_marks(c, most),
+        Case::StoppedChart(c) => stopped_chart(c, most),
         Case::Flow(bytes) => flow_file(bytes, most),
     }
 }
@@ -26,14 +28,29 @@ fn chart_case(c: &ChartCase, most: usize) -> String {
     format!("kind {}, size {}, set {}, {}", c.kind, c.size, c.set, values(&c.values, most))
 }
 
+fn stopped_marks(c: &StoppedMarks, most: usize) -> String {
+    let series = if c.moving { "moving range" } else { "main series" };
+    format!("{series}, {}, {}", stops(&c.stops, most), marks_case(&c.marks, most))
+}
+
+fn stopped_chart(c: &StoppedChart, most: usize) -> String {
+    format!("{} counted of {}, {}", c.count, stops(&c.list, most), chart_case(&c.chart, most))
+}
+
 fn flow_file(bytes: &[u8], most: usize) -> String {
-    let shown: Vec<String> = bytes.iter().take(most).map(|b| format!("{b:02x}")).collect();
-    let rest = if bytes.len() > most { " .." } else { "" };
-    format!("{} bytes [{}{rest}]", bytes.len(), shown.join(" "))
+    listed("bytes", bytes, most, |b| format!("{b:02x}"))
 }
 
 fn values(all: &[f64], most: usize) -> String {
-    let shown: Vec<String> = all.iter().take(most).map(|v| format!("{v:?}")).collect();
+    listed("values", all, most, |v| format!("{v:?}"))
+}
+
+fn stops(all: &[u64], most: usize) -> String {
+    listed("stops", all, most, u64::to_string)
+}
+
+fn listed<T>(what: &str, all: &[T], most: usize, one: impl Fn(&T) -> String) -> String {
+    let shown: Vec<String> = all.iter().take(most).map(one).collect();
     let rest = if all.len() > most { " .." } else { "" };
-    format!("{} values [{}{rest}]", all.len(), shown.join(" "))
+    format!("{} {what} [{}{rest}]", all.len(), shown.join(" "))
 }

@@ -1,23 +1,69 @@
-//! Smaller cases to try when one differs: fewer values from either end, then fewer tests.
+//! Smaller cases to try when one differs: fewer values from either end, then fewer tests, then fewer
+//! stops.
 //! The boldest come first, so that the first that still differs is the best to go on from.
 
-use crate::case::{Case, ChartCase, MarksCase};
+use crate::case::{Case, ChartCase, MarksCase, StoppedChart, StoppedMarks};
 use crate::report;
+use std::ops::Range;
 
 pub fn of(case: &Case) -> Vec<Case> {
     match case {
-        Case::Marks(c) => {
-            let fewer = parts(&c.values, 1).into_iter().map(|values| MarksCase { values, ..c.clone() });
-            let easier = smaller_sets(c.set).into_iter().map(|set| MarksCase { set, ..c.clone() });
-            fewer.chain(easier).map(Case::Marks).collect()
+        Case::Marks(c) => of_marks(c).into_iter().map(|(_, c)| Case::Marks(c)).collect(),
+        Case::Chart(c) => of_chart(c).into_iter().map(|(_, c)| Case::Chart(c)).collect(),
+        Case::StoppedMarks(c) => {
+            let fewer = fewer_stops(&c.stops).into_iter().map(|stops| StoppedMarks { stops, ..c.clone() });
+            let easier = of_marks(&c.marks).into_iter().map(|(dropped, marks)| StoppedMarks {
+                stops: moved(&c.stops, dropped),
+                marks,
+                ..c.clone()
+            });
+            easier.chain(fewer).map(Case::StoppedMarks).collect()
         }
-        Case::Chart(c) => {
-            let fewer = parts(&c.values, c.size).into_iter().map(|values| ChartCase { values, ..c.clone() });
-            let easier = smaller_sets(c.set).into_iter().map(|set| ChartCase { set, ..c.clone() });
-            fewer.chain(easier).map(Case::Chart).collect()
+        Case::StoppedChart(c) => {
+            // A count that the list holds is still held.
+            let counted = |n: u64| if c.count > c.list.len() as u64 { c.count } else { c.count.min(n) };
+            let with =
+                |list: Vec<u64>, chart| StoppedChart { count: counted(list.len() as u64), list, chart };
+            let fewer = fewer_stops(&c.list).into_iter().map(|list| with(list, c.chart.clone()));
+            let easier =
+                of_chart(&c.chart).into_iter().map(|(dropped, chart)| with(moved(&c.list, dropped), chart));
+            easier.chain(fewer).map(Case::StoppedChart).collect()
         }
         Case::Flow(bytes) => smaller_flows(bytes),
     }
+}
+
+/// Smaller cases, each with how many values it lacks at the front.
+fn of_marks(c: &MarksCase) -> Vec<(usize, MarksCase)> {
+    let fewer = parts(c.values.len()).into_iter().map(|kept| {
+        let values = c.values[kept.clone()].to_vec();
+        (kept.start, MarksCase { values, ..c.clone() })
+    });
+    let easier = smaller_sets(c.set).into_iter().map(|set| (0, MarksCase { set, ..c.clone() }));
+    fewer.chain(easier).collect()
+}
+
+/// Smaller charts, each with how many samples it lacks at the front.
+fn of_chart(c: &ChartCase) -> Vec<(usize, ChartCase)> {
+    let fewer = parts(c.count()).into_iter().map(|kept| {
+        let values = c.values[kept.start * c.size..kept.end * c.size].to_vec();
+        (kept.start, ChartCase { values, ..c.clone() })
+    });
+    let easier = smaller_sets(c.set).into_iter().map(|set| (0, ChartCase { set, ..c.clone() }));
+    fewer.chain(easier).collect()
+}
+
+fn fewer_stops(stops: &[u64]) -> Vec<Vec<u64>> {
+    parts(stops.len()).into_iter().map(|kept| stops[kept].to_vec()).collect()
+}
+
+/// The stops that are left without the first `dropped` positions, at their new places.
+fn moved(stops: &[u64], dropped: usize) -> Vec<u64> {
+    let dropped = dropped as u64;
+    if dropped == 0 {
+        return stops.to_vec();
+    }
+    stops.iter().filter(|&&p| p > dropped).map(|p| p - dropped).collect()
 }
 
 /// Fewer values and tests where the bytes are a flow file, and the bytes without some at their end.
@@ -38,14 +84,13 @@ fn smaller_flows(bytes: &[u8]) -> Vec<Case> {
     found
 }
 
-/// The values without their last or first half, quarter, .. down to one sample of `size`.
-fn parts(values: &[f64], size: usize) -> Vec<Vec<f64>> {
-    let count = values.len() / size;
+/// What is left of `count` without the last or first half, quarter, .. down to one.
+fn parts(count: usize) -> Vec<Range<usize>> {
     let mut found = Vec::new();
     let mut dropped = count.div_ceil(2);
     while dropped > 0 {
-        found.push(values[..(count - dropped) * size].to_vec());
-        found.push(values[dropped * size..].to_vec());
+        found.push(0..count - dropped);
+        found.push(dropped..count);
         dropped /= 2;
     }
     found

@@ -1,8 +1,8 @@
-//! 01's worked examples through the published Rust, and the reader of lists.
+//! 01's worked examples through the published Rust, 02's stops, and the reader of lists.
 
-use crate::case::{Answer, Case, ChartCase, Evaluation, Limits, MarksCase};
+use crate::case::{Answer, Case, ChartCase, Evaluation, Limits, MarksCase, StoppedChart, StoppedMarks};
 use crate::cases::{self, Part};
-use crate::{by_01, check, format, judge, report, smaller};
+use crate::{by_01, check, format, judge, report, smaller, stops};
 use u_analytics::spc::rules::RuleSet;
 use u_analytics::spc::variables::{IndividualMRChart, XBarRChart, XBarSChart};
 
@@ -112,9 +112,13 @@ fn row_10_the_sheet_of_ten() {
 #[test]
 fn the_rust_marks_as_01_has_it() {
     for case in cases::list(Part::Marks).into_iter().chain(cases::fresh(Part::Marks, 2000, 11)) {
-        let Case::Marks(c) = &case else { panic!("marks were asked for") };
-        let by_01 = Answer::Marks(by_01::marks(c));
-        assert_eq!(check::disagreements(&[(case, by_01)]), Vec::<String>::new());
+        let c = match case {
+            Case::Marks(c) => c,
+            Case::StoppedMarks(c) => c.marks,
+            _ => panic!("marks were asked for"),
+        };
+        let by_01 = Answer::Marks(by_01::marks(&c, |_| true));
+        assert_eq!(check::disagreements(&[(Case::Marks(c), by_01)]), Vec::<String>::new());
     }
 }
 
@@ -186,7 +190,7 @@ fn too_few_is_8_and_not_finite_is_7() {
 #[test]
 fn the_set_may_be_named_first() {
     for case in cases::fresh(Part::Charts, 300, 5) {
-        let Case::Chart(c) = &case else { panic!("a chart was asked for") };
+        let Case::Chart(c) = &case else { continue };
         let set = judge::rule_set(c.set);
         let first = match c.kind {
             1 => {
@@ -204,6 +208,123 @@ fn the_set_may_be_named_first() {
         };
         assert_eq!(check::disagreements(&[(case, first)]), Vec::<String>::new());
     }
+}
+
+// ---- stops -----------------------------------------------------------------
+
+fn stopped(moving: bool, stops: &[u64], values: &[f64]) -> Answer {
+    let marks = MarksCase { set: ALL, limits: LIMITS, values: values.to_vec() };
+    stops::marks(&StoppedMarks { moving, stops: stops.to_vec(), marks })
+}
+
+/// The positions where the test of bit `bit` stands in spite of the stops.
+fn stopped_places(bit: u16, moving: bool, stops: &[u64], values: &[f64]) -> Vec<usize> {
+    match stopped(moving, stops, values) {
+        Answer::Marks(marks) => (0..marks.len()).filter(|&i| marks[i] & (1 << bit) != 0).collect(),
+        _ => panic!("the stops were refused"),
+    }
+}
+
+#[test]
+fn a_stop_breaks_the_windows_that_hold_both_its_sides() {
+    assert_eq!(stopped_places(1, false, &[], &[26.0; 11]), [8, 9, 10]);
+    assert_eq!(stopped_places(1, false, &[1], &[26.0; 11]), [9, 10]);
+    assert_eq!(stopped_places(1, false, &[2], &[26.0; 11]), [10]);
+    assert_eq!(stopped_places(1, false, &[3], &[26.0; 11]), []);
+    assert_eq!(stopped_places(1, false, &[9], &[26.0; 11]), [8]);
+    assert_eq!(stopped_places(1, false, &[10], &[26.0; 11]), [8, 9]);
+}
+
+#[test]
+fn two_of_three_may_not_reach_over_a_stop() {
+    assert_eq!(stopped_places(4, false, &[1], &[27.5, 27.5, 27.5, 27.5]), [3]);
+    assert_eq!(stopped_places(4, false, &[2], &[27.5, 27.5, 27.5, 27.5]), []);
+}
+
+#[test]
+fn a_straddled_range_stands_alone() {
+    assert_eq!(stopped_places(1, true, &[1], &[26.0; 11]), [9, 10]);
+    assert_eq!(stopped_places(1, true, &[2], &[26.0; 11]), [10]);
+    assert_eq!(stopped_places(1, true, &[9], &[26.0; 11]), []);
+    assert_eq!(stopped_places(1, true, &[10], &[26.0; 11]), [8]);
+    assert_eq!(stopped_places(1, true, &[11], &[26.0; 11]), [8, 9]);
+    assert_eq!(stopped_places(0, true, &[1, 2, 3], &[28.5; 3]), [0, 1, 2]);
+}
+
+#[test]
+fn bad_stops_are_15() {
+    let refused = |moving, stops: &[u64], n: usize| match stopped(moving, stops, &vec![26.0; n]) {
+        Answer::Refused(number) => number == 15,
+        _ => false,
+    };
+    for moving in [false, true] {
+        for stops in [&[0][..], &[2, 2], &[3, 2], &[1, 7], &[u64::MAX]] {
+            assert!(refused(moving, stops, 5), "{stops:?}");
+        }
+        assert!(!refused(moving, &[1, 2, 4], 5));
+        assert!(!refused(moving, &[], 0) && refused(moving, &[1], 0));
+    }
+    assert!(refused(false, &[5], 5) && !refused(true, &[5], 5) && refused(true, &[6], 5));
+}
+
+fn stopped_chart(count: u64, list: &[u64], chart: ChartCase) -> Answer {
+    stops::chart(&StoppedChart { count, list: list.to_vec(), chart })
+}
+
+#[test]
+fn of_a_charts_series_only_the_individuals_dispersion_is_a_moving_range() {
+    let marks = |kind: u8, stop: u64| {
+        let case = chart(kind, if kind == 1 { 1 } else { 2 }, 64, &[8.0; 16].repeat(kind.min(2).into()));
+        match stopped_chart(1, &[stop], case) {
+            Answer::Evaluated(e) => (e.main_marks[15], e.dispersion_marks.last().copied(), e.number_of_marks),
+            _ => panic!("the chart was refused"),
+        }
+    };
+    // Fifteen moving ranges, of which the first straddles the stop.
+    assert_eq!(marks(1, 1), (64, Some(0), 1));
+    for kind in [2, 3] {
+        assert_eq!(marks(kind, 1), (64, Some(64), 2));
+        assert_eq!(marks(kind, 8), (0, Some(0), 0));
+    }
+}
+
+#[test]
+fn bad_stops_stand_before_too_few_and_not_in_the_figures() {
+    let number =
+        |count: u64, list: &[u64], values: &[f64]| match stopped_chart(count, list, chart(1, 1, 1, values)) {
+            Answer::BadStops(figures) => (15, figures.map(|f| f.is_ok())),
+            Answer::Refused(number) => (number, [false; 2]),
+            _ => (0, [true; 2]),
+        };
+    assert_eq!(number(0, &[], &[25.0]), (8, [false; 2]));
+    assert_eq!(number(1, &[1], &[25.0]), (15, [false; 2]));
+    assert_eq!(number(1, &[], &[25.0; 3]), (15, [true; 2]));
+    assert_eq!(number(2, &[1, 2, 0], &[25.0; 3]), (0, [true; 2]));
+    assert_eq!(number(3, &[1, 2, 0], &[25.0; 3]), (15, [true; 2]));
+}
+
+/// With no stops all is as before; with some the limits are, and no mark stands that did not.
+#[test]
+fn stops_take_marks_away_and_nothing_else() {
+    for case in cases::list(Part::Charts).into_iter().chain(cases::fresh(Part::Charts, 600, 7)) {
+        let chart = match &case {
+            Case::Chart(c) => c,
+            Case::StoppedChart(c) => &c.chart,
+            _ => panic!("a chart was asked for"),
+        };
+        let plain = stopped_chart(0, &[0], chart.clone());
+        assert_eq!(check::disagreements(&[(Case::Chart(chart.clone()), plain)]), Vec::<String>::new());
+        if let (Answer::Evaluated(e), Answer::Evaluated(all)) = (judge::answer(&case), judge::chart(chart)) {
+            assert_eq!(e.main_limits.bits(), all.main_limits.bits());
+            assert_eq!(e.dispersion_limits.bits(), all.dispersion_limits.bits());
+            assert!(are_among(&e.main_marks, &all.main_marks));
+            assert!(are_among(&e.dispersion_marks, &all.dispersion_marks));
+        }
+    }
+}
+
+fn are_among(marks: &[u16], all: &[u16]) -> bool {
+    marks.len() == all.len() && marks.iter().zip(all).all(|(m, a)| m & !a == 0)
 }
 
 // ---- lists -----------------------------------------------------------------
@@ -276,13 +397,25 @@ fn a_number_out_of_place_is_refused() {
     };
     assert_eq!(changed(0, 2), (0, "format number is 2, not 1 to 1".into()));
     assert_eq!(changed(1, 2), (1, "2 cases are stated, 1 stand there".into()));
-    assert_eq!(changed(2, 4), (2, "tag is 4, not 0 to 3".into()));
+    assert_eq!(changed(2, 6), (2, "tag is 6, not 0 to 5".into()));
     let more = [&whole[..], &[0, 0]].concat();
     assert_eq!(fault_of(&more), (whole.len(), "2 bytes are left over".into()));
     assert_eq!(fault_of(&[1, 1, 2, 4]), (3, "kind is 4, not 1 to 3".into()));
     assert_eq!(fault_of(&[1, 1, 2, 2, 26]), (4, "size is 26, not 2 to 25".into()));
     assert_eq!(fault_of(&[1, 1, 2, 1, 1, 0x80, 0x04]), (5, "set is 512, not 0 to 511".into()));
-    assert_eq!(fault_of(&[1, 1, 2, 1, 1, 1, 0, 9]), (7, "answer is 9, not 0, 7 or 8".into()));
+    assert_eq!(fault_of(&[1, 1, 2, 1, 1, 1, 0, 9]), (7, "answer is 9, not one of [0, 7, 8]".into()));
+    assert_eq!(fault_of(&[1, 1, 4, 2]), (3, "moving is 2, not 0 to 1".into()));
+    assert_eq!(fault_of(&[1, 1, 4, 0, 0x81, 0x20]), (4, "number of stops is 4097, not 0 to 4096".into()));
+    assert_eq!(fault_of(&[1, 1, 4, 0, 1]), (5, "the bytes end at stop".into()));
+    assert_eq!(fault_of(&[1, 1, 4, 0, 0, 0, 0, 0, 0, 0, 7]), (10, "answer is 7, not one of [0, 15]".into()));
+    assert_eq!(
+        fault_of(&[1, 1, 5, 0, 0, 1, 1, 1, 0, 9]),
+        (9, "answer is 9, not one of [0, 7, 8, 15]".into())
+    );
+    assert_eq!(
+        fault_of(&[1, 1, 5, 0, 0, 1, 1, 1, 0, 15, 15]),
+        (10, "answer is 15, not one of [0, 7, 8]".into())
+    );
     assert_eq!(fault_of(&[1, 1, 3, 2, 0]), (3, "the bytes end inside flow file".into()));
 }
 
@@ -301,16 +434,18 @@ fn a_wrong_mark_is_told_with_its_window() {
     let told = check::disagreements(&[(Case::Marks(case), Answer::Marks(marks))]);
     let smallest = "smallest input: set 2, ucl 28.0, cl 25.0, lcl 22.0, 9 values [26.0 26.0 ";
     assert_eq!(told.len(), 1);
-    assert!(told[0].starts_with("case 0: marks at 10: stored 256, Rust 258 (test 1)"), "{}", told[0]);
+    assert!(told[0].starts_with("case 0: marks at 10: stored 256, right 258 (test 1)"), "{}", told[0]);
     assert!(told[0].contains(smallest), "{}", told[0]);
 }
 
 #[test]
 fn smaller_cases_are_smaller() {
     let size = |case: &Case| match case {
-        Case::Marks(c) => (c.values.len(), c.set.count_ones()),
-        Case::Chart(c) => (c.count(), c.set.count_ones()),
-        Case::Flow(bytes) => (bytes.len(), tests_of(bytes)),
+        Case::Marks(c) => (c.values.len(), 0, c.set.count_ones()),
+        Case::Chart(c) => (c.count(), 0, c.set.count_ones()),
+        Case::StoppedMarks(c) => (c.marks.values.len(), c.stops.len(), c.marks.set.count_ones()),
+        Case::StoppedChart(c) => (c.chart.count(), c.list.len(), c.chart.set.count_ones()),
+        Case::Flow(bytes) => (bytes.len(), 0, tests_of(bytes)),
     };
     for part in [Part::Marks, Part::Charts, Part::Reports] {
         for case in cases::fresh(part, 50, 1) {

@@ -8,7 +8,7 @@ use crate::scope::WINDOWS;
 
 /// `n` values of which every full window shows `test`'s pattern with room to spare, `way` being
 /// 1.0 for its upper side and -1.0 for its lower.
-fn shown(test: usize, l: &Limits, way: f64, n: usize) -> Vec<f64> {
+pub fn shown(test: usize, l: &Limits, way: f64, n: usize) -> Vec<f64> {
     let s = one_sigma(l) * way;
     let turn = |i: usize| if i % 2 == 0 { 1.0 } else { -1.0 };
     let value = |i: usize| match test {

@@ -6,6 +6,7 @@ mod flows;
 mod limits;
 mod marks;
 mod reports;
+mod stops;
 
 use crate::case::Case;
 use crate::random::Random;
@@ -36,21 +37,31 @@ impl Part {
 pub fn list(part: Part) -> Vec<Case> {
     let mut random = Random::new(LIST_SEED);
     match part {
-        Part::Marks => marks::list(&mut random).into_iter().map(Case::Marks).collect(),
-        Part::Charts => charts::list(&mut random).into_iter().map(Case::Chart).collect(),
+        Part::Marks => {
+            let plain: Vec<Case> = marks::list(&mut random).into_iter().map(Case::Marks).collect();
+            let stopped = stops::marks_list(&mut random).into_iter().map(Case::StoppedMarks);
+            plain.into_iter().chain(stopped).collect()
+        }
+        Part::Charts => {
+            let plain: Vec<Case> = charts::list(&mut random).into_iter().map(Case::Chart).collect();
+            let stopped = stops::charts_list(&mut random).into_iter().map(Case::StoppedChart);
+            plain.into_iter().chain(stopped).collect()
+        }
         Part::Reports => reports::list(&mut random).into_iter().map(Case::Flow).collect(),
     }
 }
 
-/// `count` cases that follow from `seed` alone.
+/// `count` cases that follow from `seed` alone; of marks and charts every other one has stops.
 pub fn fresh(part: Part, count: usize, seed: u64) -> Vec<Case> {
     let mut random = Random::new(seed);
-    let mut one = || match part {
-        Part::Marks => Case::Marks(marks::any(&mut random)),
-        Part::Charts => Case::Chart(charts::any(&mut random)),
-        Part::Reports => Case::Flow(reports::any(&mut random)),
+    let mut one = |k: usize| match (part, k % 2) {
+        (Part::Marks, 0) => Case::Marks(marks::any(&mut random)),
+        (Part::Marks, _) => Case::StoppedMarks(stops::any_marks(&mut random)),
+        (Part::Charts, 0) => Case::Chart(charts::any(&mut random)),
+        (Part::Charts, _) => Case::StoppedChart(stops::any_chart(&mut random)),
+        (Part::Reports, _) => Case::Flow(reports::any(&mut random)),
     };
-    (0..count).map(|_| one()).collect()
+    (0..count).map(&mut one).collect()
 }
 
 /// All nine tests, a named set (shewhart, nelson, western_electric), or any of the 512.
