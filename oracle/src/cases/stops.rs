@@ -154,7 +154,7 @@ fn level(kind: u8, count: usize) -> ChartCase {
 fn widening(kind: u8, count: usize) -> ChartCase {
     let steps = |i: usize| -> Vec<f64> {
         match kind {
-            1 => vec![(i * i / 2) as f64],
+            1 => vec![(i * (i + 1) / 2) as f64],
             _ => vec![60.0 - i as f64, 60.0 + i as f64],
         }
     };
