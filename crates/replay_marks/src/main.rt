@@ -1,7 +1,9 @@
-// Replays a list of marks cases (oracle/FORMAT.md) from standard input: marks the values of each case afresh, and holds
-// the answer, the marks byte for byte and the entries past them to what is stored. Writes a line for each case that it
-// finds otherwise, and last how many cases there are and how many of them differ; or, where the bytes are no list, last a
-// line that says at which byte and why.
+// Replays a list of marks cases (oracle/FORMAT.md) from standard input: marks the values of each case afresh, with its
+// stops where it has any, and holds the answer byte for byte and the entries past the marks to what is stored. Writes a
+// line for each case that it finds otherwise, and last how many cases there are and how many of them differ; or, where the
+// bytes are no list, last a line that says at which byte and why.
+mod answer;
+
 use libc::STDIN_FILENO;
 use lists::Item;
 use lists::Outcome;
@@ -11,16 +13,19 @@ use lists::Small;
 use rules::Limits;
 use sets::RuleSet;
 ghost use mathlib.Core.Path.{_≡_};
-ghost use Prim.Native.Nat.{_+_};
+ghost use Prim.Native.Nat.{_+_, _≤_};
 ghost use lib.ListN.{length};
-ghost use Rattle.lists.specs.Ours.{inGroups};
 ghost use Rattle.lists.specs.Outcomes.{OnlyIf, stretch};
-ghost use Rattle.replay_marks.specs.Held.{Held};
+ghost use Rattle.rules.specs.Terms.{under};
+ghost use Rattle.rules.specs.Marking.{answerOf};
+ghost use Rattle.replay_marks.specs.Held.{Held, written};
 
-// The tag of a marks case.
+// The tags of a marks case and of one with stops.
 const MARKS_CASE: u16 = 1;
 
-// The most values that a case has.
+const STOPPED_CASE: u16 = 4;
+
+// The most values that a case has, and the most stops.
 const MOST: u16 = 4096;
 
 // How many entries more than marks a slice for them has.
@@ -29,42 +34,67 @@ const SPARE: usize = 4;
 // What a slice for marks holds before they are made. No marks are this, and past the last of them it has to stay.
 const UNTOUCHED: u16 = 0xffff;
 
-// Holds our marks to the stored ones, which stand in the list from `at` to `next`.
-fn hold(list: &[u8], at: usize, next: usize, marks: &[u16]) -> Outcome
-    ensures { λ r. ⌜ OnlyIf (inGroups (now (marks .entry)) ≡ stretch at next (now (list .entry))) r ⌝ }
-{
-    // 4,096 marks of two bytes
-    let mut room = [0u8; 8192];
-    let end = lists::put_marks(&mut room, 0, marks);
-    if room.len() < end {
-        return Outcome::Length(end);
-    }
-    let bytes = &room[0..end];
-    lists::hold(bytes, list, at, next)
+// How the series of a case is marked: `stopped`, with stops, and as a moving range or not; without stops it is none.
+struct Terms {
+    stopped: bool,
+    moving: bool,
+    limits: Limits,
+    set: RuleSet,
 }
 
-// Marks the values, and holds the marks to those stored from `at` to `next`.
+// How many marks 01's number leaves of n.
+fn written_by(number: u8, n: usize) -> usize
+    ensures { λ r. ⌜ r ≡ written number n ⌝ }
+    ensures few { λ r. ⌜ r ≤ n ⌝ }
+{
+    if number == 0 {
+        return n;
+    }
+    0
+}
+
+// Holds all that marking n values answers and leaves to the answer that stands in the list from `at` to `next`.
+fn hold(
+    list: &[u8],
+    at: usize,
+    next: usize,
+    stopped: bool,
+    number: u8,
+    n: usize,
+    marks: &[u16],
+) -> Outcome
+    requires { ⌜ n ≤ length (now marks) ⌝ }
+    ensures { λ r. ⌜ OnlyIf (Held (stretch at next (now (list .entry))) stopped number n (now (marks .entry))) r ⌝ }
+{
+    if !(stopped | (number == 0)) {
+        return Outcome::Refused(number);
+    }
+    let end = written_by(number, n);
+    if !lists::marks_are(marks, end, UNTOUCHED) {
+        return Outcome::Overrun;
+    }
+    answer::hold_bytes(list, at, next, stopped, number, &marks[0..end])
+}
+
+// Marks the values, and holds our answer to the one stored from `at` to `next`.
 fn judge(
     list: &[u8],
     at: usize,
     next: usize,
+    terms: Terms,
+    stops: &[usize],
     values: &[f64],
-    limits: Limits,
-    set: RuleSet,
     marks: &mut [u16],
 ) -> Outcome
     requires { ⌜ length (now marks) ≡ length (now values) + 4 ⌝ }
-    ensures { λ r. ⌜ OnlyIf (Held (stretch at next (now (list .entry))) (length (now (values .entry))) (now (marks .exit))) r ⌝ }
+    ensures { λ r. ⌜ OnlyIf (Held (stretch at next (now (list .entry))) (terms .stopped)
+        (answerOf (under (terms .limits) (now (stops .entry)) (terms .moving)) (terms .set .mask) (now (values .entry)) (length (now (marks .entry))))
+        (length (now (values .entry))) (now (marks .exit))) r ⌝ }
 {
-    let n = values.len();
-    let answer = rules::mark(values, limits, set, marks).number();
-    if answer != 0 {
-        return Outcome::Refused(answer);
-    }
-    if !lists::marks_are(marks, n, UNTOUCHED) {
-        return Outcome::Overrun;
-    }
-    hold(list, at, next, &marks[0..n])
+    let limits = terms.limits;
+    let set = terms.set;
+    let number = rules::mark(values, stops, terms.moving, limits, set, marks).number();
+    hold(list, at, next, terms.stopped, number, values.len(), marks)
 }
 
 // Replays a case from its values on, which stand at the place `at`. There is room for the values, and for the marks with
@@ -72,27 +102,27 @@ fn judge(
 fn replay_values(
     list: &[u8],
     at: usize,
-    limits: Limits,
-    set: RuleSet,
+    terms: Terms,
+    stops: &[usize],
     values: &mut [f64],
     marks: &mut [u16],
 ) -> Replayed
     requires { ⌜ length (now marks) ≡ length (now values) + 4 ⌝ }
 {
-    let marks_at = match lists::read_floats(list, at, Item::Value, values) {
+    let answer_at = match lists::read_floats(list, at, Item::Value, values) {
         Passed::Next(next) => next,
         Passed::Fault(fault) => return Replayed::Fault(fault),
     };
-    let next = match lists::pass_numbers(list, marks_at, Item::Answer, values.len()) {
+    let next = match answer::pass(list, answer_at, terms.stopped, values.len()) {
         Passed::Next(next) => next,
         Passed::Fault(fault) => return Replayed::Fault(fault),
     };
-    let outcome = judge(list, marks_at, next, values, limits, set, marks);
+    let outcome = judge(list, answer_at, next, terms, stops, values, marks);
     Replayed::Case { outcome, next }
 }
 
 // Replays a case from the number of its values on, which stands at the place `at`.
-fn replay_count(list: &[u8], at: usize, limits: Limits, set: RuleSet) -> Replayed {
+fn replay_count(list: &[u8], at: usize, terms: Terms, stops: &[usize]) -> Replayed {
     let count = match lists::read_small(list, at, Item::Count, 0, MOST) {
         Small::Read(count) => count,
         Small::Fault(fault) => return Replayed::Fault(fault),
@@ -104,20 +134,16 @@ fn replay_count(list: &[u8], at: usize, limits: Limits, set: RuleSet) -> Replaye
     replay_values(
         list,
         count.next,
-        limits,
-        set,
+        terms,
+        stops,
         &mut values[0..n],
         &mut marks[0..end],
     )
 }
 
-// Replays the case that begins at the place `at`.
-fn replay_case(list: &[u8], at: usize) -> Replayed {
-    let tag = match lists::read_small(list, at, Item::Tag, MARKS_CASE, MARKS_CASE) {
-        Small::Read(tag) => tag,
-        Small::Fault(fault) => return Replayed::Fault(fault),
-    };
-    let set = match lists::read_small(list, tag.next, Item::Set, 0, lists::ALL_TESTS) {
+// Replays a case from its set on, which stands at the place `at`.
+fn replay_set(list: &[u8], at: usize, stopped: bool, moving: bool, stops: &[usize]) -> Replayed {
+    let set = match lists::read_small(list, at, Item::Set, 0, lists::ALL_TESTS) {
         Small::Read(set) => set,
         Small::Fault(fault) => return Replayed::Fault(fault),
     };
@@ -126,12 +152,52 @@ fn replay_case(list: &[u8], at: usize) -> Replayed {
         Passed::Next(next) => next,
         Passed::Fault(fault) => return Replayed::Fault(fault),
     };
-    let limits = Limits {
-        ucl: lines[0],
-        cl: lines[1],
-        lcl: lines[2],
+    let terms = Terms {
+        stopped,
+        moving,
+        limits: Limits {
+            ucl: lines[0],
+            cl: lines[1],
+            lcl: lines[2],
+        },
+        set: RuleSet { mask: set.value },
     };
-    replay_count(list, next, limits, RuleSet { mask: set.value })
+    replay_count(list, next, terms, stops)
+}
+
+// Replays a case from its stops on, which stand at the place `at`. There is room for them.
+fn replay_stops(list: &[u8], at: usize, moving: bool, stops: &mut [usize]) -> Replayed {
+    match lists::read_positions(list, at, Item::Stop, stops) {
+        Passed::Next(next) => replay_set(list, next, true, moving, stops),
+        Passed::Fault(fault) => Replayed::Fault(fault),
+    }
+}
+
+// Replays a case with stops, whose tag ends at the place `at`.
+fn replay_stopped(list: &[u8], at: usize) -> Replayed {
+    let moving = match lists::read_small(list, at, Item::Moving, 0, 1) {
+        Small::Read(moving) => moving,
+        Small::Fault(fault) => return Replayed::Fault(fault),
+    };
+    let count = match lists::read_small(list, moving.next, Item::Stops, 0, MOST) {
+        Small::Read(count) => count,
+        Small::Fault(fault) => return Replayed::Fault(fault),
+    };
+    let k = count.value as usize;
+    let mut stops = [0usize; 4096];
+    replay_stops(list, count.next, moving.value == 1, &mut stops[0..k])
+}
+
+// Replays the case that begins at the place `at`.
+fn replay_case(list: &[u8], at: usize) -> Replayed {
+    let tag = match lists::read_tag(list, at, MARKS_CASE, STOPPED_CASE) {
+        Small::Read(tag) => tag,
+        Small::Fault(fault) => return Replayed::Fault(fault),
+    };
+    if tag.value == STOPPED_CASE {
+        return replay_stopped(list, tag.next);
+    }
+    replay_set(list, tag.next, false, false, &[])
 }
 
 // Replays every case of a list.

@@ -1,4 +1,4 @@
--- `replay_marks::replay_count` is safe: the count that was read is at most 4,096. Assumes nothing.
+-- `replay_count` is safe: the count that was read is at most 4,096. Assumes nothing.
 use mathlib.Core.Path.{subst}
 use native.Mathlib.Omega.{arith}
 use Rattle.lists.specs.Taken.{AtMost}
