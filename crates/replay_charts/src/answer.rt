@@ -6,7 +6,10 @@ use lists::Passed;
 use lists::Small;
 ghost use Prim.Native.Nat.{_≤_};
 ghost use Rattle.lists.specs.Ours.{Put};
-ghost use Rattle.replay_charts.specs.Answer.{figureOf, seriesOf, countsOf, answerOf};
+ghost use Rattle.replay_charts.specs.Answer.{figureOf, figuresOf, seriesOf, countsOf, answerOf};
+
+/// 01's number for bad stops. The figures take no stops, and their answers follow it.
+pub const BAD_STOPS: u8 = 15;
 
 // A figure: its answer, and the figure where there is one.
 fn put_figure(out: &mut [u8], at: usize, ours: Told) -> usize
@@ -17,6 +20,14 @@ fn put_figure(out: &mut [u8], at: usize, ours: Told) -> usize
         return a;
     }
     lists::put_number(out, a, lists::bits(ours.value))
+}
+
+// Both figures.
+fn put_figures(out: &mut [u8], at: usize, ours: Answers) -> usize
+    ensures { λ r. ⌜ Put (figuresOf ours) at (now (out .entry)) r (now (out .exit)) ⌝ }
+{
+    let a = put_figure(out, at, ours.sigma_hat);
+    put_figure(out, a, ours.sigma_hat_df)
 }
 
 // The series and their marks.
@@ -44,8 +55,7 @@ fn put_counts(out: &mut [u8], at: usize, ours: Answers) -> usize
     let found = ours.found;
     let a = lists::put_number(out, at, found.marks as u64);
     let b = lists::put_number(out, a, ours.none_stands as u64);
-    let c = put_figure(out, b, ours.sigma_hat);
-    put_figure(out, c, ours.sigma_hat_df)
+    put_figures(out, b, ours)
 }
 
 /// Writes our answer to the front of a room, and gives the place past it.
@@ -61,6 +71,9 @@ pub fn put_answer(
         (now («dispersion_marks» .entry))) 0 (now (out .entry)) r (now (out .exit)) ⌝ }
 {
     let a = lists::put_number(out, 0, ours.number as u64);
+    if ours.number == BAD_STOPS {
+        return put_figures(out, a, ours);
+    }
     if ours.number != 0 {
         return a;
     }
@@ -76,7 +89,7 @@ pub fn put_answer(
 
 fn pass_figure(list: &[u8], so_far: Passed) -> Passed {
     match so_far {
-        Passed::Next(at) => match lists::read_answer(list, at, 7) {
+        Passed::Next(at) => match lists::read_answer(list, at, 8) {
             Small::Read(answer) => {
                 if answer.value != 0 {
                     return Passed::Next(answer.next);
@@ -89,19 +102,26 @@ fn pass_figure(list: &[u8], so_far: Passed) -> Passed {
     }
 }
 
+fn pass_figures(list: &[u8], so_far: Passed) -> Passed {
+    pass_figure(list, pass_figure(list, so_far))
+}
+
 /// Passes over a stored answer, whose series have so many points together.
 pub fn pass_answer(list: &[u8], at: usize, points: usize) -> Passed
     requires { ⌜ points ≤ 8192 ⌝ }
 {
-    match lists::read_answer(list, at, 8) {
+    match lists::read_answer(list, at, BAD_STOPS as u16) {
         Small::Read(answer) => {
+            if answer.value == BAD_STOPS as u16 {
+                return pass_figures(list, Passed::Next(answer.next));
+            }
             if answer.value != 0 {
                 return Passed::Next(answer.next);
             }
             // the limits, how many points the second series has, each point with its marks, their number, whether none stands
             let many = 6 + 1 + 2 * points + 2;
             let counts = lists::pass_numbers(list, answer.next, Item::Answer, many);
-            pass_figure(list, pass_figure(list, counts))
+            pass_figures(list, counts)
         }
         Small::Fault(fault) => Passed::Fault(fault),
     }

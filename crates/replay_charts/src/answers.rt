@@ -66,6 +66,7 @@ fn found_of(evaluated: Evaluated) -> Found {
 pub fn answers_of(
     chart: Chart,
     values: &[f64],
+    stops: &[usize],
     main: &mut [f64],
     dispersion: &mut [f64],
     main_marks: &mut [u16],
@@ -74,6 +75,7 @@ pub fn answers_of(
     let evaluated = evaluating::evaluate(
         chart,
         values,
+        stops,
         main,
         dispersion,
         main_marks,

@@ -1,4 +1,4 @@
-// What stands before the samples of a chart case.
+// What stands before the samples of a chart case, from its kind on.
 use lists::Fault;
 use lists::Item;
 use lists::Small;
@@ -6,9 +6,6 @@ ghost use mathlib.Core.Path.{_≡_};
 ghost use Rattle.lists.specs.Found.{ofSmall};
 ghost use Rattle.lists.specs.Taken.{AtMost};
 ghost use Rattle.replay_charts.specs.Head.{ofHeaded, sizeFrom, headFrom, Within};
-
-// The tag of a chart case.
-const CHART_CASE: u16 = 2;
 
 // The most samples that a case has, and the most values of one of them.
 const MOST_SAMPLES: u16 = 4096;
@@ -40,16 +37,12 @@ fn read_size(list: &[u8], at: usize, kind: u16) -> Small
     lists::read_small(list, at, Item::Size, 2, MOST_VALUES)
 }
 
-/// Reads the head of the case that begins at the place `at`.
+/// Reads the head that begins at the place `at`.
 pub fn read_head(list: &[u8], at: usize) -> Headed
     ensures { λ r. ⌜ ofHeaded r ≡ headFrom (now (list .entry)) at ⌝ }
     ensures within { λ r. ⌜ Within r ⌝ }
 {
-    let tag = match lists::read_small(list, at, Item::Tag, CHART_CASE, CHART_CASE) {
-        Small::Read(tag) => tag,
-        Small::Fault(fault) => return Headed::Fault(fault),
-    };
-    let kind = match lists::read_small(list, tag.next, Item::Kind, 1, 3) {
+    let kind = match lists::read_small(list, at, Item::Kind, 1, 3) {
         Small::Read(kind) => kind,
         Small::Fault(fault) => return Headed::Fault(fault),
     };

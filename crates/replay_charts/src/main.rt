@@ -1,12 +1,13 @@
-// Replays a list of chart cases (oracle/FORMAT.md) from standard input: makes each chart afresh, adds its samples one by
-// one, evaluates it, and holds its answer byte for byte to what is stored, the entries past it to what they were, and where
-// it is refused both figures to the same number. Writes a line for each case that it finds otherwise, and last how many
-// cases there are and how many of them differ; or, where the bytes are no list, last a line that says at which byte and
-// why.
+// Replays a list of chart cases (oracle/FORMAT.md) from standard input: makes each chart afresh, with its stops where it
+// has any, adds its samples one by one, evaluates it, and holds its answer byte for byte to what is stored, the entries past
+// it to what they were, and where it is refused both figures to the same number, but for bad stops. Writes a line for each
+// case that it finds otherwise, and last how many cases there are and how many of them differ; or, where the bytes are no
+// list, last a line that says at which byte and why.
 mod answer;
 mod answers;
 mod head;
 
+use answer::BAD_STOPS;
 use answers::Answers;
 use charts::Changed;
 use charts::Chart;
@@ -15,9 +16,11 @@ use head::Headed;
 use libc::STDIN_FILENO;
 use lists::Fault;
 use lists::Item;
+use lists::Number;
 use lists::Outcome;
 use lists::Passed;
 use lists::Replayed;
+use lists::Small;
 use sets::RuleSet;
 ghost use mathlib.Core.Path.{_≡_};
 ghost use Prim.Native.Nat.{_≤_};
@@ -26,6 +29,14 @@ ghost use Rattle.lists.specs.Ours.{inGroups};
 ghost use Rattle.lists.specs.Outcomes.{OnlyIf, stretch};
 ghost use Rattle.replay_charts.specs.Answer.{answerOf};
 ghost use Rattle.replay_charts.specs.Held.{Held, refusedAlike, restIs};
+
+// The tags of a chart case and of one with stops.
+const CHART_CASE: u16 = 2;
+
+const STOPPED_CASE: u16 = 5;
+
+// The longest list of stops.
+const MOST_STOPS: u16 = 4096;
 
 // How many entries more than its series a lent slice has.
 const SPARE: usize = 4;
@@ -40,6 +51,12 @@ const UNTOUCHED_POINT: f64 = -12345.678;
 struct Made {
     chart: Chart,
     refused: u8,
+}
+
+// What a case says of its record's stops: nothing, or how many it counts.
+enum Counted {
+    Unsaid,
+    Stops(usize),
 }
 
 // A chart with its samples, and the place just past them; or why there are none.
@@ -78,10 +95,22 @@ fn make(kind: u64, size: usize, set: RuleSet) -> Made {
         size,
         count: 0,
         set,
+        stops: 0,
     };
     let new = changed(Made { chart, refused: 0 }, Chart::new(kind, size));
     let chart = new.chart;
     changed(new, chart.with_set(set))
+}
+
+// The chart with its count of stops, which one that is new has as it ought to be.
+fn count_stops(made: Made, stops: Counted) -> Made {
+    match stops {
+        Counted::Unsaid => made,
+        Counted::Stops(n) => {
+            let chart = made.chart;
+            changed(made, chart.with_stops(n))
+        }
+    }
 }
 
 // Adds `count` samples, which stand one after another from the place `at` on. There is room for one of them in `sample`.
@@ -112,11 +141,12 @@ fn fill(
 }
 
 // Makes a chart and adds its samples.
-fn fill_head(list: &[u8], head: Head, values: &mut [f64]) -> Filled
+fn fill_head(list: &[u8], head: Head, stops: Counted, values: &mut [f64]) -> Filled
     requires { ⌜ head .size ≤ 25 ⌝ }
 {
     let size = head.size as usize;
-    let made = make(head.kind as u64, size, RuleSet { mask: head.set });
+    let plain = make(head.kind as u64, size, RuleSet { mask: head.set });
+    let made = count_stops(plain, stops);
     let mut sample = [0.0f64; 25];
     fill(
         list,
@@ -184,7 +214,8 @@ fn rest_is(
         & lists::marks_are(dispersion_marks, left.d, left.marks)
 }
 
-// Whether both figures are refused as evaluating is, and none stands at 8 only; where evaluating is not refused, yes.
+// Whether both figures are refused as evaluating is, but for bad stops, which they do not know, and none stands at 8 only;
+// where evaluating is not refused, yes.
 fn refused_alike(ours: Answers) -> bool
     ensures { λ r. ⌜ r ≡ refusedAlike ours ⌝ }
 {
@@ -194,7 +225,8 @@ fn refused_alike(ours: Answers) -> bool
     }
     let a = ours.sigma_hat;
     let b = ours.sigma_hat_df;
-    (a.number == number) & (b.number == number) & (ours.none_stands as u8 == (number == 8) as u8)
+    let alike = (a.number == number) & (b.number == number);
+    ((number == BAD_STOPS) | alike) & (ours.none_stands as u8 == (number == 8) as u8)
 }
 
 // Holds our answer to the stored one, which stands in the list from `at` to `next`.
@@ -271,6 +303,7 @@ fn judge(
     at: usize,
     next: usize,
     chart: Chart,
+    stops: &[usize],
     values: &[f64],
     n: usize,
     d: usize,
@@ -285,6 +318,7 @@ fn judge(
     let ours = answers::answers_of(
         chart,
         values,
+        stops,
         main,
         dispersion,
         main_marks,
@@ -310,6 +344,7 @@ fn evaluate(
     at: usize,
     next: usize,
     chart: Chart,
+    stops: &[usize],
     values: &[f64],
     n: usize,
     d: usize,
@@ -327,6 +362,7 @@ fn evaluate(
         at,
         next,
         chart,
+        stops,
         values,
         n,
         d,
@@ -338,7 +374,14 @@ fn evaluate(
 }
 
 // Replays a case from its answer on, which stands at the place `at`.
-fn replay_answer(list: &[u8], at: usize, head: Head, made: Made, values: &[f64]) -> Replayed
+fn replay_answer(
+    list: &[u8],
+    at: usize,
+    head: Head,
+    made: Made,
+    stops: &[usize],
+    values: &[f64],
+) -> Replayed
     requires { ⌜ head .count ≤ 4096 ⌝ }
 {
     let n = head.count as usize;
@@ -354,21 +397,74 @@ fn replay_answer(list: &[u8], at: usize, head: Head, made: Made, values: &[f64])
         };
     }
     let chart = made.chart;
-    let outcome = evaluate(list, at, next, chart, values, n, d);
+    let outcome = evaluate(list, at, next, chart, stops, values, n, d);
     Replayed::Case { outcome, next }
 }
 
-// Replays the case that begins at the place `at`. There is room for its values; others may stand there from an earlier
-// case.
-fn replay_case(list: &[u8], at: usize, values: &mut [f64]) -> Replayed {
+// Replays a case from its kind on, which stands at the place `at`. There is room for its values; others may stand there
+// from an earlier case.
+fn replay_chart(
+    list: &[u8],
+    at: usize,
+    counted: Counted,
+    stops: &[usize],
+    values: &mut [f64],
+) -> Replayed {
     let head = match head::read_head(list, at) {
         Headed::Read(head) => head,
         Headed::Fault(fault) => return Replayed::Fault(fault),
     };
-    match fill_head(list, head, values) {
-        Filled::Chart { made, next } => replay_answer(list, next, head, made, values),
+    match fill_head(list, head, counted, values) {
+        Filled::Chart { made, next } => replay_answer(list, next, head, made, stops, values),
         Filled::Fault(fault) => Replayed::Fault(fault),
     }
+}
+
+// Replays a case from its list of stops on, which stands at the place `at`. There is room for it.
+fn replay_stops(
+    list: &[u8],
+    at: usize,
+    count: usize,
+    stops: &mut [usize],
+    values: &mut [f64],
+) -> Replayed {
+    match lists::read_positions(list, at, Item::Stop, stops) {
+        Passed::Next(next) => replay_chart(list, next, Counted::Stops(count), stops, values),
+        Passed::Fault(fault) => Replayed::Fault(fault),
+    }
+}
+
+// Replays a case with stops, whose tag ends at the place `at`.
+fn replay_stopped(list: &[u8], at: usize, values: &mut [f64]) -> Replayed {
+    let count = match lists::read_number(list, at, Item::Stops) {
+        Number::Read(count) => count,
+        Number::Fault(fault) => return Replayed::Fault(fault),
+    };
+    let length = match lists::read_small(list, count.next, Item::Stops, 0, MOST_STOPS) {
+        Small::Read(length) => length,
+        Small::Fault(fault) => return Replayed::Fault(fault),
+    };
+    let m = length.value as usize;
+    let mut stops = [0usize; 4096];
+    replay_stops(
+        list,
+        length.next,
+        count.value as usize,
+        &mut stops[0..m],
+        values,
+    )
+}
+
+// Replays the case that begins at the place `at`.
+fn replay_case(list: &[u8], at: usize, values: &mut [f64]) -> Replayed {
+    let tag = match lists::read_tag(list, at, CHART_CASE, STOPPED_CASE) {
+        Small::Read(tag) => tag,
+        Small::Fault(fault) => return Replayed::Fault(fault),
+    };
+    if tag.value == STOPPED_CASE {
+        return replay_stopped(list, tag.next, values);
+    }
+    replay_chart(list, tag.next, Counted::Unsaid, &[], values)
 }
 
 // Replays every case of a list. There is room for the values of one of them.

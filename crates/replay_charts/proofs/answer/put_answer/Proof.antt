@@ -12,12 +12,22 @@ cast-put-number c = search needs
 put-number-requires : tie.Need-put-number-requires
 put-number-requires c κs = search needs
 
+put-figures-requires : tie.Need-put-figures-requires
+put-figures-requires c κs = search needs
+
 same-length : tie.Need-same-length
 same-length c = search needs
 
 returns : tie.Need-returns
 unfolding answerOf
-returns c = rw (ne-eqb _ _ (c .if1 .taken)) (c .before .before .before .before .put-number .ensures)
+returns c = rw (eq-eqb _ _ (c .before .before .before .before .if1 .taken)) (put-then (c .before .before .before .before .before .before .before .before .put-number .ensures) (c .before .before .put-figures .ensures))
+
+same-length-2 : tie.Need-same-length-2
+same-length-2 c = search needs
+
+returns-2 : tie.Need-returns-2
+unfolding answerOf
+returns-2 c = rw (ne-eqb _ _ (c .before .before .if1 .left), ne-eqb _ _ (c .if2 .taken)) (c .before .before .before .before .before .before .put-number .ensures)
 
 slice-aggregate-put-floats : tie.Need-slice-aggregate-put-floats
 slice-aggregate-put-floats c = search needs
@@ -34,14 +44,14 @@ put-series-requires c κs = search needs
 put-counts-requires : tie.Need-put-counts-requires
 put-counts-requires c κs = search needs
 
-same-length-2 : tie.Need-same-length-2
-same-length-2 c = search needs
+same-length-3 : tie.Need-same-length-3
+same-length-3 c = search needs
 
-returns-2 : tie.Need-returns-2
+returns-3 : tie.Need-returns-3
 unfolding answerOf
-returns-2 c =
-    rw (eq-eqb _ _ (c .before .before .before .before .before .before .before .before .before .before .before .before .before .before .before .before .before .before .before .before .if1 .left))
-    (put-then (put-then (put-then (put-then (c .before .before .before .before .before .before .before .before .before .before .before .before .before .before .before .before .before .before .before .before .before .before .before .before .put-number .ensures) (c .before .before .before .before .before .before .before .before .before .before .before .before .before .before .put-floats .ensures)) (c .before .before .before .before .before .before .before .before .before .before .put-number2 .ensures)) (c .before .before .before .before .before .before .put-series .ensures)) (c .before .before .put-counts .ensures))
+returns-3 c =
+    rw (ne-eqb _ _ (c .before .before .before .before .before .before .before .before .before .before .before .before .before .before .before .before .before .before .before .before .before .before .if1 .left), eq-eqb _ _ (c .before .before .before .before .before .before .before .before .before .before .before .before .before .before .before .before .before .before .before .before .if2 .left))
+    (put-then (put-then (put-then (put-then (c .before .before .before .before .before .before .before .before .before .before .before .before .before .before .before .before .before .before .before .before .before .before .before .before .before .before .put-number .ensures) (c .before .before .before .before .before .before .before .before .before .before .before .before .before .before .put-floats .ensures)) (c .before .before .before .before .before .before .before .before .before .before .put-number2 .ensures)) (c .before .before .before .before .before .before .put-series .ensures)) (c .before .before .put-counts .ensures))
 
 pub put-answer-spec : {M : Type 1} → statement M
 put-answer-spec =
@@ -49,12 +59,15 @@ put-answer-spec =
     (tie.spec
     cast-put-number
     put-number-requires
+    put-figures-requires
     same-length
     returns
+    same-length-2
+    returns-2
     slice-aggregate-put-floats
     put-floats-requires
     put-number-requires-2
     put-series-requires
     put-counts-requires
-    same-length-2
-    returns-2)
+    same-length-3
+    returns-3)

@@ -13,17 +13,14 @@ cast-put-number c = search needs
 put-number-requires-2 : tie.Need-put-number-requires-2
 put-number-requires-2 c κs = search needs
 
-put-figure-requires : tie.Need-put-figure-requires
-put-figure-requires c κs = search needs
-
-put-figure-requires-2 : tie.Need-put-figure-requires-2
-put-figure-requires-2 c κs = search needs
+put-figures-requires : tie.Need-put-figures-requires
+put-figures-requires c κs = search needs
 
 same-length : tie.Need-same-length
 same-length c = search needs
 
 returns : tie.Need-returns
-returns c = put-then (put-then (put-then (c .before .before .before .before .before .before .before .before .before .before .before .before .before .before .before .put-number .ensures) (c .before .before .before .before .before .before .before .before .before .before .put-number2 .ensures)) (c .before .before .before .before .before .before .put-figure .ensures)) (c .before .before .put-figure2 .ensures)
+returns c = put-then (put-then (c .before .before .before .before .before .before .before .before .before .before .before .put-number .ensures) (c .before .before .before .before .before .before .put-number2 .ensures)) (c .before .before .put-figures .ensures)
 
 pub put-counts-spec : {M : Type 1} → statement M
 put-counts-spec =
@@ -32,7 +29,6 @@ put-counts-spec =
     put-number-requires
     cast-put-number
     put-number-requires-2
-    put-figure-requires
-    put-figure-requires-2
+    put-figures-requires
     same-length
     returns)

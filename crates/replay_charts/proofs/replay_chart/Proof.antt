@@ -1,9 +1,9 @@
--- `replay_case` is safe: the head was read within its bounds. Assumes nothing.
+-- `replay_chart` is safe: the head was read within its bounds. Assumes nothing.
 use mathlib.Core.Path.{subst}
-use borrow.Author.Needs.{needs}
 use Rattle.replay_charts.specs.Head.{Within}
-use Rattle.replay_charts.proofs.replay_case.Statement.{statement}
-use Rattle.replay_charts.proofs.replay_case.Tie as tie
+use borrow.Author.Needs.{needs}
+use Rattle.replay_charts.proofs.replay_chart.Statement.{statement}
+use Rattle.replay_charts.proofs.replay_chart.Tie as tie
 
 read-head-requires : tie.Need-read-head-requires
 read-head-requires c κs = search needs
@@ -18,17 +18,13 @@ returns : tie.Need-returns
 returns c = search needs
 
 fill-head-requires : tie.Need-fill-head-requires
-fill-head-requires c κs =
-    let s = c .before .before in
-    subst Within (s .head .given .1) (s .before .before .read-head .ensures .1) .0
+fill-head-requires c κs = subst Within (c .before .before .head .given .1) (c .before .before .before .before .read-head .ensures .1) .0
 
 enum-known-made : tie.Need-enum-known-made
 enum-known-made c = search needs
 
 replay-answer-requires : tie.Need-replay-answer-requires
-replay-answer-requires c κs =
-    let s = c .before .before .before .before .before .before .before .before .before in
-    subst Within (s .head .given .1) (s .before .before .read-head .ensures .1) .1
+replay-answer-requires c κs = subst Within (c .before .before .before .before .before .before .before .before .before .head .given .1) (c .before .before .before .before .before .before .before .before .before .before .before .read-head .ensures .1) .1
 
 enum-known-fault-2 : tie.Need-enum-known-fault-2
 enum-known-fault-2 c = search needs
@@ -45,8 +41,8 @@ same-length-2 c = search needs
 returns-3 : tie.Need-returns-3
 returns-3 c = search needs
 
-pub replay-case-spec : {M : Type 1} → statement M
-replay-case-spec =
+pub replay-chart-spec : {M : Type 1} → statement M
+replay-chart-spec =
     tie.close
     (tie.spec
     read-head-requires
