@@ -31,8 +31,8 @@ countsOf a = (a .found .marks ∷ []) ++ (one (a .«none_stands») ∷ []) ++ fi
 abbrev pub linesOf : Found → List Float
 linesOf f = f .main .ucl ∷ f .main .cl ∷ f .main .lcl ∷ f .dispersion .ucl ∷ f .dispersion .cl ∷ f .dispersion .lcl ∷ []
 
--- "01's number for evaluating"; "after 15" both figures; "After 7 or 8 the case is over"; "After 0 there follow" the limits, "d, the number of points of the dispersion
--- series", and the above
+-- "01's number for evaluating"; "After 15 both sigma figures follow"; "After 7 or 8 the case is over"; "After 0 there follow" the limits, "d, the
+-- number of points of the dispersion series", and the above
 unfoldable pub answerOf : Answers → List Float → List Float → List ℕ → List ℕ → List ℕ
 answerOf a main dispersion mainMarks dispersionMarks =
     cond (eqb (a .number) 15) ((a .number ∷ []) ++ figuresOf a)
