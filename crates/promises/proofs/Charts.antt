@@ -21,6 +21,8 @@ use Rattle.charts.proofs.Chart.record_wrong.Reads as record-wrong
 use Rattle.charts.proofs.Chart.record_wrong.Kinds as record-wrong-kinds
 use Rattle.charts.proofs.Chart.with_set.Reads as with-set
 use Rattle.charts.proofs.Chart.with_set.Kinds as with-set-kinds
+use Rattle.charts.proofs.Chart.with_stops.Reads as with-stops
+use Rattle.charts.proofs.Chart.with_stops.Kinds as with-stops-kinds
 use Rattle.charts.proofs.Chart.add.Reads as add
 use Rattle.charts.proofs.Chart.add.Kinds as add-kinds
 use Rattle.promises.proofs.Coincide.{Coincide}
@@ -42,6 +44,9 @@ record-wrong-one κs a x y s t p q = p ∙ sym q
 
 with-set-one : Coincide 0 with-set-kinds.ps with-set-kinds.r with-set.Post (λ κs x s. x)
 with-set-one κs a x y s t p q = changed-one (a .0) x y (p ∙ sym q)
+
+with-stops-one : Coincide 0 with-stops-kinds.ps with-stops-kinds.r with-stops.Post (λ κs x s. x)
+with-stops-one κs a x y s t p q = changed-one (a .0) x y (p ∙ sym q)
 
 add-one : Coincide 2 add-kinds.ps add-kinds.r add.Post {Seen = Changed × List Float} (λ κs x s. (x, now (s .1 .0)))
 add-one κs a x y s t p q =

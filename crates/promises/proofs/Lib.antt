@@ -5,6 +5,7 @@ mod Groups
 mod Root
 mod Arith
 mod Sets
+mod Stops
 mod Rules
 mod Evidence
 mod Charts

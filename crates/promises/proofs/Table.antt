@@ -19,6 +19,7 @@ use Rattle.groups.specs.Groups.{groups, numberAt}
 use Rattle.root.specs.declared.Rooted.{Rooted}
 use Rattle.root.specs.declared.Rooted.the-variants as rooted
 use Rattle.root.specs.Root.{rootOf}
+use Rattle.stops.specs.Stops.{stopAt, cutAt, rising, stopsWrong}
 use Rattle.sets.specs.Sets.{bitOf, tests, has, setOf}
 use Rattle.floats.specs.Finite.{finite, allFinite}
 use Rattle.floats.specs.Values.{plusZero}
@@ -26,7 +27,7 @@ use Rattle.rules.specs.declared.Limits.{Limits}
 use Rattle.rules.specs.Lines.{oneSigma, twoSigma, linesOf}
 use Rattle.rules.specs.Tests.{steps, alternating, window, shows}
 use Rattle.rules.specs.Finite.{finiteLimits}
-use Rattle.rules.specs.Terms.{under}
+use Rattle.rules.specs.Terms.{unstopped}
 use Rattle.rules.specs.Marking.{newestFirst, stands, marksAt, marksOf, ahead, answerOf, marksAfter}
 use Rattle.arith.specs.Arith.{meanOf, signCleared, movingOf}
 use Rattle.charts.specs.declared.Chart.{Chart}
@@ -35,7 +36,7 @@ use Rattle.evaluating.specs.Asked.{asked}
 use Rattle.evaluating.specs.Factors.{factorOf}
 use Rattle.evaluating.specs.Series.{bySeries, pointAt, pointsIn, seriesOf}
 use Rattle.evaluating.specs.Limits.{factorFor, mainLimits, lowerLimit, dispersionLimits, centreOf, limitsOf}
-use Rattle.evaluating.specs.Evaluating.{tooFew, noRoom, sound, answerFor, evaluateOf, lentAfter}
+use Rattle.evaluating.specs.Evaluating.{positionsWrong, tooFew, noRoom, sound, answerFor, evaluateOf, lentAfter}
 use Rattle.sheets.specs.Sheet.{marked, entriesOf, sheetOf}
 use Rattle.sheets.specs.Said.{entries, saidFrom}
 use Rattle.sheets.specs.Answers.{firstWrong, checkOf, seriesSheet, writeOf, roomAfter}
@@ -77,13 +78,13 @@ flat : Limits
 unfolding half
 flat = record { ucl = half 50; cl = half 50; lcl = half 50 }
 
--- a new chart of this kind and size, with the set shewhart
+-- a new chart of this kind and size, with the set shewhart and no stops
 taken : ℕ → ℕ → ℕ × Chart
-taken kind size = (0, record { kind = kind; size = size; count = 0; set = record { mask = 1 } })
+taken kind size = (0, record { kind = kind; size = size; count = 0; set = record { mask = 1 }; stops = 0 })
 
 -- a size that is not allowed, with a record that is all zero
 badSize : ℕ × Chart
-badSize = (1, record { kind = 0; size = 0; count = 0; set = record { mask = 0 } })
+badSize = (1, record { kind = 0; size = 0; count = 0; set = record { mask = 0 }; stops = 0 })
 
 -- 24, 26 so many times
 upDown : ℕ → List ℕ
@@ -157,16 +158,16 @@ positions b i (m ∷ ms) = cond (hasBit m b) (i ∷ positions b (suc i) ms) (pos
 
 -- `mark` takes the values, and a slice of just their length, with every mark in it before, then passes the test
 marking : Limits → List Float → (List ℕ → Bool) → Bool
-unfolding marksAfter answerOf ahead firstOf finiteLimits allFinite finite every
+unfolding marksAfter answerOf ahead stopsWrong rising cutAt stopAt firstOf finiteLimits allFinite finite every
     marksOf marksAt tabulateFrom newestFirst stands window shows tests bitOf has setOf hasBit fromBits count steps alternating
     linesOf oneSigma twoSigma add sub mul div lt le
 marking l values test =
-    eqb (answerOf (under l) 511 values (length values)) 0 && test (marksAfter (under l) 511 values (replicate (length values) 511))
+    eqb (answerOf (unstopped l) 511 values (length values)) 0 && test (marksAfter (unstopped l) 511 values (replicate (length values) 511))
 
 sameChart : ℕ × Chart → ℕ × Chart → Bool
 sameChart a b =
     eqb (a .0) (b .0) && eqb (a .1 .kind) (b .1 .kind) && eqb (a .1 .size) (b .1 .size) && eqb (a .1 .count) (b .1 .count)
-    && eqb (a .1 .set .mask) (b .1 .set .mask)
+    && eqb (a .1 .set .mask) (b .1 .set .mask) && eqb (a .1 .stops) (b .1 .stops)
 
 -- a room of one byte more than these, and what it holds once they are written
 room : List ℕ → List ℕ
@@ -177,14 +178,14 @@ filled bytes = bytes ++ 7 ∷ []
 
 -- `write` gives the bytes, and `check` accepts them
 sheeting : List Float → ℕ → List ℕ → Bool
-unfolding usual room filled same writeOf roomAfter checkOf firstWrong saidFrom entries ahead each firstOf finiteLimits allFinite finite every
+unfolding usual room filled same writeOf roomAfter checkOf firstWrong saidFrom entries ahead stopsWrong rising cutAt stopAt each firstOf finiteLimits allFinite finite every
     marksOf marksAt tabulateFrom newestFirst stands window shows tests bitOf has setOf hasBit fromBits count steps alternating
     linesOf oneSigma twoSigma seriesSheet sheetOf marked entriesOf groups numberAt add sub mul div lt le
 sheeting values set bytes =
-    eqb (writeOf (under usual) set values (length (room bytes)) .0) 0
-    && eqb (writeOf (under usual) set values (length (room bytes)) .1) (length bytes)
-    && same (roomAfter (under usual) set values (room bytes)) (filled bytes)
-    && eqb (checkOf (under usual) set values bytes .0) 0
+    eqb (writeOf (unstopped usual) set values (length (room bytes)) .0) 0
+    && eqb (writeOf (unstopped usual) set values (length (room bytes)) .1) (length bytes)
+    && same (roomAfter (unstopped usual) set values (room bytes)) (filled bytes)
+    && eqb (checkOf (unstopped usual) set values bytes .0) 0
 
 isNumber : ℕ → ℕ → Reading → Bool
 isNumber n end (Number v next) = eqb v n && eqb next end
@@ -210,11 +211,11 @@ isRoot y rooted.Refused = false
 
 -- individuals, two observations
 two : Chart
-two = record { kind = 1; size = 1; count = 2; set = record { mask = 1 } }
+two = record { kind = 1; size = 1; count = 2; set = record { mask = 1 }; stops = 0 }
 
 -- `evaluate` takes the two observations, and the slice for their moving range, with a NaN in it before, then holds it
 ranging : List Float → ℕ → Bool
-unfolding two same evaluateOf answerFor firstOf recordWrong ownWrong sizeWrong tooFew noRoom sound allFinite finite finiteLimits every lentAfter
+unfolding two same evaluateOf answerFor firstOf recordWrong ownWrong sizeWrong positionsWrong stopsWrong rising tooFew noRoom sound allFinite finite finiteLimits every lentAfter
     limitsOf centreOf mainLimits dispersionLimits lowerLimit factorFor factorOf
     seriesOf tabulateFrom pointAt pointsIn byKind bySeries movingOf signCleared meanOf
     ofBits toBits ofInt round add sub mul div
