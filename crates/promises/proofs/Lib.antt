@@ -1,4 +1,5 @@
--- For each public call: any two results that its promise allows for the same inputs coincide. And 01's table, proved as one.
+-- For each public call: any two results that its promise allows for the same inputs coincide. And 01's table, proved as one, and that what
+-- 02 adds, left out, is 01.
 pub mod Coincide
 mod Floats
 mod Groups
@@ -14,3 +15,4 @@ mod Sheets
 mod Reports
 mod Twin
 mod Table
+pub mod Base
