@@ -1,3 +1,4 @@
 -- The laws of evidence.
 mod Behind
 mod Spans
+pub mod Shown

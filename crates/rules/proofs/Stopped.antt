@@ -208,35 +208,44 @@ stands-within l t k past = by (leb k (length past)) (leb (window t) k) refl refl
         ∙ ap (λ (b : Bool). b && shows t l (take (window t) past))
         (lt-leb (window t) (length past) (omega (arith, leb-false k (length past) e, leb-false (window t) k f)))
 
-module _ (l : Lines) (set : ℕ) (values : List Float) where
-  module _ (cut : ℕ → Bool) (q i : ℕ) where
-    abbrev past : List Float
-    past = newestFirst cut values (suc i)
+-- the tests are left whose window fits in k values
+fitted : (l : Lines) (set k : ℕ) (past : List Float)
+    → bitAnd (setOf (λ t. has set t && stands l past t)) (fitting k) ≡ setOf (λ t. has set t && stands l (take k past) t)
+fitted l set k past =
+    and-comm (setOf (λ t. has set t && stands l past t)) (fitting k)
+    ∙ and-setOf (fitting k) (λ t. has set t && stands l past t)
+    ∙ ap setOf (fun-ext (λ t. ap (λ (b : Bool). b && (has set t && stands l past t)) (fits-window k t)
+    ∙ and-swap (leb (window t) k) (has set t) (stands l past t)
+    ∙ ap (λ (b : Bool). has set t && b) (sym (stands-within l t k past))))
 
+module _ (l : Lines) (set : ℕ) (values : List Float) where
+  -- Marks with stops are the marks without, less the tests whose window is longer than the values that stand next to each other.
+  pub marks-masked : (cut : ℕ → Bool) (i : ℕ) → bitAnd (marksAt unbroken l set values i) (fitting (suc i - since cut i)) ≡ marksAt cut l set values i
+  unfolding marksAt
+  marks-masked cut i =
+      fitted l set (suc i - since cut i) (newestFirst unbroken values (suc i))
+      ∙ ap (λ (w : List Float). setOf (λ t. has set t && stands l w t))
+      (sym (newest-begins cut values (suc i) ∙ ap (λ (k : ℕ). take k (newestFirst unbroken values (suc i))) (length-since cut values i)))
+
+  module _ (cut : ℕ → Bool) (q i : ℕ) where
     ahead-of-it : i < q → marksAt cut l set values i ≡ marksAt (orAt cut q) l set values i
     unfolding marksAt
     ahead-of-it h = ap (λ (w : List Float). setOf (λ t. has set t && stands l w t)) (sym (newest-ahead cut q values (suc i) h))
 
-    behind-it : q ≤ i → setOf (λ t. has set t && (leb (window t) (suc i - q) && stands l past t)) ≡ marksAt (orAt cut q) l set values i
+    behind-it : q ≤ i → bitAnd (marksAt cut l set values i) (fitting (suc i - q)) ≡ marksAt (orAt cut q) l set values i
     unfolding marksAt
     behind-it h =
+        fitted l set (suc i - q) (newestFirst cut values (suc i))
+        ∙ ap (λ (w : List Float). setOf (λ t. has set t && stands l w t)) (sym (newest-behind cut q values i h))
+
+    -- from the fifteenth on all fit
+    far-behind : q ≤ i → 15 ≤ suc i - q → marksAt cut l set values i ≡ marksAt (orAt cut q) l set values i
+    unfolding marksAt
+    far-behind h far =
         ap setOf (fun-ext (λ t. ap (λ (b : Bool). has set t && b)
-        (sym (ap (λ (w : List Float). stands l w t) (newest-behind cut q values i h) ∙ stands-within l t (suc i - q) past))))
-
-    -- the tests are left whose window fits behind it
-    fitted : bitAnd (marksAt cut l set values i) (fitting (suc i - q)) ≡ setOf (λ t. has set t && (leb (window t) (suc i - q) && stands l past t))
-    unfolding marksAt
-    fitted =
-        and-comm (marksAt cut l set values i) (fitting (suc i - q))
-        ∙ and-setOf (fitting (suc i - q)) (λ t. has set t && stands l past t)
-        ∙ ap setOf (fun-ext (λ t. ap (λ (b : Bool). b && (has set t && stands l past t)) (fits-window (suc i - q) t)
-        ∙ and-swap (leb (window t) (suc i - q)) (has set t) (stands l past t)))
-
-    -- from the fifteenth on, all
-    far-behind : 15 ≤ suc i - q → marksAt cut l set values i ≡ setOf (λ t. has set t && (leb (window t) (suc i - q) && stands l past t))
-    unfolding marksAt
-    far-behind h =
-        ap setOf (fun-ext (λ t. ap (λ (b : Bool). has set t && (b && stands l past t)) (sym (le-leb (window t) (suc i - q) (omega (arith, window-most t))))))
+        (sym (stands-within l t (suc i - q) (newestFirst cut values (suc i))
+        ∙ ap (λ (b : Bool). b && stands l (newestFirst cut values (suc i)) t) (le-leb (window t) (suc i - q) (omega (arith, window-most t)))))))
+        ∙ ap (λ (w : List Float). setOf (λ t. has set t && stands l w t)) (sym (newest-behind cut q values i h))
 
     cut-mark : cutMark q i (marksAt cut l set values i) ≡ marksAt (orAt cut q) l set values i
     cut-mark = by (ltb i q) (ltb (i - q) 14) refl refl
@@ -248,10 +257,10 @@ module _ (l : Lines) (set : ℕ) (values : List Float) where
         by false true e f =
             let behind : q ≤ i = ltb-false i q e in
             let one : suc (i - q) ≡ suc i - q = omega arith in
-            ap (bitAnd (marksAt cut l set values i)) (fits-are (i - q) (ltb-true (i - q) 14 f) ∙ ap fitting one) ∙ fitted ∙ behind-it behind
+            ap (bitAnd (marksAt cut l set values i)) (fits-are (i - q) (ltb-true (i - q) 14 f) ∙ ap fitting one) ∙ behind-it behind
         by false false e f =
             let behind : q ≤ i = ltb-false i q e in
-            far-behind (omega (arith, ltb-false (i - q) 14 f)) ∙ behind-it behind
+            far-behind behind (omega (arith, ltb-false (i - q) 14 f))
 
   marks-more : (cut : ℕ → Bool) (q : ℕ) → cutMarks q (marksBy cut l set values) ≡ marksBy (orAt cut q) l set values
   unfolding cutMarks
@@ -262,7 +271,7 @@ module _ (l : Lines) (set : ℕ) (values : List Float) where
       ∙ same-tabulate (λ i. cutMark q i (getD (tabulate f n) i 0)) (marksAt (orAt cut q) l set values) n
       (λ i h. ap (cutMark q i) (getD-tabulate f n i 0 h) ∙ cut-mark cut q i)
 
-  -- Marks with stops are the marks without them, less what each of their cuts takes away.
+  -- The same as the code does it, cut by cut.
   pub marks-stops : (stops : List ℕ) (moving : Bool) → byStops cutMarks stops moving (marksBy unbroken l set values) ≡ marksBy (cutAt stops moving) l set values
   marks-stops stops moving = by-stops cutMarks (λ cut. marksBy cut l set values) marks-more stops moving unbroken
 
