@@ -37,6 +37,6 @@ within points p = leb 1 p && leb p (points - 1)
 unfoldable pub stopsWrong : ℕ → List ℕ → Bool
 stopsWrong points stops = not (rising stops) || not (every (map (within points) stops))
 
--- how many points the main series of n points has: a moving range series is "one point shorter than its main series"
+-- how many points the main series has where a series of it has n: one of moving ranges is "one point shorter than its main series"
 abbrev pub mainPoints : Bool → ℕ → ℕ
 mainPoints moving n = cond moving (suc n) n
