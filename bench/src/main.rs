@@ -5,6 +5,7 @@ mod data;
 mod mode;
 mod ours;
 mod rust;
+mod stops;
 mod time;
 
 use data::{LIMITS, POINTS};
@@ -23,6 +24,7 @@ fn main() {
     let word = std::env::args().nth(1);
     let turns = word.and_then(|w| w.parse().ok()).expect("a number of turns");
     marking_values(turns);
+    marking_stopped(turns);
     single_tests(turns);
     short_series(turns);
     marking_bytes(turns);
@@ -62,6 +64,35 @@ fn marking_values(turns: usize) {
         )
         .map(|t| t / POINTS as f64);
         println!("{name:<36}{mine:>8.2}{theirs:>16.2}{:>8.2}", mine / theirs);
+    }
+}
+
+/// What stops cost: the same series marked with them and without. The Rust has no stops.
+fn marking_stopped(turns: usize) {
+    println!();
+    println!("{:<36}{:>8}{:>16}{:>8}", "marking values, with stops", "ours", "no stops", "ratio");
+    let values = data::in_control();
+    let mut whole = vec![0; POINTS];
+    assert_eq!(ours::mark_values(&values, NELSON, &mut whole), 0);
+    for (name, stops, moving) in [
+        ("nelson, 100 stops", stops::spread(100), false),
+        ("nelson, 100 stops, moving ranges", stops::spread(100), true),
+        ("nelson, 4,095 stops", stops::spread(POINTS - 1), false),
+    ] {
+        let mut marks = vec![0; POINTS];
+        assert_eq!(ours::mark_stopped(&values, &stops, moving, NELSON, &mut marks), 0);
+        assert_ne!(marks, whole, "nothing is taken away: {name}");
+        assert_eq!(marks, stops::left_of(&whole, &stops, moving), "marks differ: {name}");
+
+        let [stopped, none] = medians(
+            turns,
+            [
+                &mut || keep(ours::mark_stopped(opaque(&values), opaque(&stops), moving, NELSON, &mut marks)),
+                &mut || keep(ours::mark_values(opaque(&values), NELSON, &mut whole)),
+            ],
+        )
+        .map(|t| t / POINTS as f64);
+        println!("{name:<36}{stopped:>8.2}{none:>16.2}{:>8.2}", stopped / none);
     }
 }
 
@@ -209,22 +240,24 @@ fn sheets(turns: usize) {
 
 /// The window behind each mark of a flow under all nine tests. The Rust has no such call.
 fn evidence(turns: usize) {
-    let flow = data::two_peaked();
-    let mut marks = vec![0; flow.len()];
-    ours::mark_values(&flow, ALL, &mut marks);
-    let pairs = (0..flow.len()).flat_map(|at| (0..9).map(move |bit| (at, bit)));
-    let marked: Vec<(usize, u64)> = pairs.filter(|&(at, bit)| marks[at] & (1 << bit) != 0).collect();
-    for &(at, bit) in &marked {
-        assert_ne!(ours::evidence(&flow, at, bit), 0, "no window behind the mark of test {bit} at {at}");
-    }
-    let [mine] = medians(
-        turns,
-        [&mut || marked.iter().for_each(|&(at, bit)| keep(ours::evidence(&flow, opaque(at), opaque(bit))))],
-    )
-    .map(|t| t / marked.len() as f64);
     println!();
     println!("{:<36}{:>8}", "evidence, ns a mark", "ours");
-    println!("{:<36}{mine:>8.0}", "all nine tests, two-peaked");
+    let flow = data::two_peaked();
+    for (name, stops) in [("all nine tests, two-peaked", vec![]), ("the same, 100 stops", stops::spread(100))]
+    {
+        let mut marks = vec![0; flow.len()];
+        assert_eq!(ours::mark_stopped(&flow, &stops, false, ALL, &mut marks), 0);
+        let is_marked = |&(at, bit): &(usize, u64)| marks[at] & (1 << bit) != 0;
+        let mut pairs: Vec<_> = (0..flow.len()).flat_map(|at| (0..9).map(move |bit| (at, bit))).collect();
+        for pair @ &(at, bit) in &pairs {
+            let shown = ours::evidence(&flow, &stops, at, bit) != 0;
+            assert_eq!(shown, is_marked(pair), "a mark without a window, or a window without: {bit} at {at}");
+        }
+        pairs.retain(is_marked);
+        let ask = |&(at, bit): &(usize, u64)| keep(ours::evidence(&flow, &stops, opaque(at), opaque(bit)));
+        let [mine] = medians(turns, [&mut || pairs.iter().for_each(ask)]).map(|t| t / pairs.len() as f64);
+        println!("{name:<36}{mine:>8.0}");
+    }
 }
 
 fn roots(turns: usize) {

@@ -41,6 +41,9 @@ extern "C" {
         set: u16,
         values: *const f64,
         values_len: usize,
+        stops: *const usize,
+        stops_len: usize,
+        moving: bool,
         marks: *mut u16,
         marks_len: usize,
     ) -> u64;
@@ -50,6 +53,8 @@ extern "C" {
         lcl: f64,
         values: *const f64,
         values_len: usize,
+        stops: *const usize,
+        stops_len: usize,
         at: usize,
         bit: u64,
     ) -> usize;
@@ -75,13 +80,34 @@ extern "C" {
 // keeps within it, and what it writes to is lent for writing and so apart from the others.
 
 pub fn mark_values(values: &[f64], set: u16, marks: &mut [u16]) -> u64 {
+    mark_stopped(values, &[], false, set, marks)
+}
+
+pub fn mark_stopped(values: &[f64], stops: &[usize], moving: bool, set: u16, marks: &mut [u16]) -> u64 {
     let (to, room) = (marks.as_mut_ptr(), marks.len());
-    unsafe { bench_mark(LIMITS.ucl, LIMITS.cl, LIMITS.lcl, set, values.as_ptr(), values.len(), to, room) }
+    unsafe {
+        bench_mark(
+            LIMITS.ucl,
+            LIMITS.cl,
+            LIMITS.lcl,
+            set,
+            values.as_ptr(),
+            values.len(),
+            stops.as_ptr(),
+            stops.len(),
+            moving,
+            to,
+            room,
+        )
+    }
 }
 
 /// How long the window behind a mark is, or 0 where there is none.
-pub fn evidence(values: &[f64], at: usize, bit: u64) -> usize {
-    unsafe { bench_evidence(LIMITS.ucl, LIMITS.cl, LIMITS.lcl, values.as_ptr(), values.len(), at, bit) }
+pub fn evidence(values: &[f64], stops: &[usize], at: usize, bit: u64) -> usize {
+    let (cuts, len) = (stops.as_ptr(), stops.len());
+    unsafe {
+        bench_evidence(LIMITS.ucl, LIMITS.cl, LIMITS.lcl, values.as_ptr(), values.len(), cuts, len, at, bit)
+    }
 }
 
 pub fn mark(values: &[u8], set: u16, marks: &mut [u8]) -> u64 {
