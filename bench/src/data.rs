@@ -47,6 +47,11 @@ pub fn constant(value: f64) -> Vec<f64> {
     vec![value; POINTS]
 }
 
+/// Up and down in turn.
+pub fn up_and_down() -> Vec<f64> {
+    (0..POINTS).map(|i| if i % 2 == 0 { 24.0 } else { 26.0 }).collect()
+}
+
 /// So many of each `of` values beyond the upper limit, in no order, and the others on the centre line.
 pub fn beyond(some: u64, of: u64) -> Vec<f64> {
     let mut random = Random(4);

@@ -71,24 +71,31 @@ fn marking_values(turns: usize) {
 fn marking_stopped(turns: usize) {
     println!();
     println!("{:<36}{:>8}{:>16}{:>8}", "marking values, with stops", "ours", "no stops", "ratio");
-    let values = data::in_control();
-    let mut whole = vec![0; POINTS];
-    assert_eq!(ours::mark_values(&values, NELSON, &mut whole), 0);
+    let flows = [
+        data::in_control(),
+        data::two_peaked(),
+        data::constant(LIMITS.cl),
+        data::constant(LIMITS.cl + 1.5),
+        data::up_and_down(),
+    ];
     for (name, stops, moving) in [
         ("nelson, 100 stops", stops::spread(100), false),
         ("nelson, 100 stops, moving ranges", stops::spread(100), true),
         ("nelson, 4,095 stops", stops::spread(POINTS - 1), false),
     ] {
-        let mut marks = vec![0; POINTS];
-        assert_eq!(ours::mark_stopped(&values, &stops, moving, NELSON, &mut marks), 0);
-        assert_ne!(marks, whole, "nothing is taken away: {name}");
-        assert_eq!(marks, stops::left_of(&whole, &stops, moving), "marks differ: {name}");
+        let (mut marks, mut whole) = (vec![0; POINTS], vec![0; POINTS]);
+        for (values, set) in flows.iter().flat_map(|f| [(f, ALL), (f, NELSON)]) {
+            assert_eq!(ours::mark_values(values, set, &mut whole), 0);
+            assert_eq!(ours::mark_stopped(values, &stops, moving, set, &mut marks), 0);
+            assert_ne!(marks, whole, "nothing is taken away: {name}");
+            assert_eq!(marks, stops::left_of(&whole, &stops, moving), "marks differ: {name}");
+        }
 
         let [stopped, none] = medians(
             turns,
             [
-                &mut || keep(ours::mark_stopped(opaque(&values), opaque(&stops), moving, NELSON, &mut marks)),
-                &mut || keep(ours::mark_values(opaque(&values), NELSON, &mut whole)),
+                &mut || keep(ours::mark_stopped(opaque(&flows[0]), &stops, moving, NELSON, &mut marks)),
+                &mut || keep(ours::mark_values(opaque(&flows[0]), NELSON, &mut whole)),
             ],
         )
         .map(|t| t / POINTS as f64);
