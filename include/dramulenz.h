@@ -42,8 +42,8 @@
  *
  * That this ends the flushing too was tried with glibc 2.36; with another C library ask dramulenz_mode() before the call.
  *
- * The stack. dramulenz_mark and dramulenz_write take up to 45,000 bytes of it, dramulenz_check up to 52,000 and
- * dramulenz_root up to 100: measured, not proved. host/c/stack.c measures it again.
+ * The stack. dramulenz_mark takes up to 47,000 bytes of it, dramulenz_write up to 45,000, dramulenz_check up to 52,000
+ * and dramulenz_root up to 100: measured, not proved. host/c/stack.c measures it again.
  *
  * The functions keep nothing between calls and allocate nothing. Of the C library the archive needs memcpy and memset.
  */

@@ -18,10 +18,9 @@ fn shows_pattern(part: &[f64], limits: Limits, t: Test) -> bool
     requires { ⌜ length (now part) ≡ window t ⌝ }
     ensures { λ r. ⌜ r ≡ showsAlone limits t (now (part .entry)) ⌝ }
 {
-    let none = [0usize; 0];
     let mut marks = [0u16; 15];
     let set = RuleSet { mask: 1 << t.bit() };
-    let answered = mark(part, &none, false, limits, set, &mut marks);
+    let answered = mark(part, &[], false, limits, set, &mut marks);
     if answered.number() != 0 {
         return false;
     }

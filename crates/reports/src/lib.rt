@@ -88,7 +88,6 @@ fn report_chart(chart: Chart, values: &[f64], out: &mut [u8]) -> Reported
     if !floats::all_finite(values) {
         return refuse(3, out);
     }
-    let none = [0usize; 0];
     let mut main = [0.0f64; 2048];
     let mut dispersion = [0.0f64; 2048];
     let mut marks = [0u16; 2048];
@@ -96,7 +95,7 @@ fn report_chart(chart: Chart, values: &[f64], out: &mut [u8]) -> Reported
     match evaluating::evaluate(
         chart,
         values,
-        &none,
+        &[],
         &mut main,
         &mut dispersion,
         &mut marks,

@@ -50,13 +50,11 @@ fn count(counts: &mut [u64; 12], answer: Checked) {
 
 // The checker and the writer, with no stops.
 fn checked(values: &[f64], limits: Limits, set: RuleSet, sheet: &[u8]) -> Checked {
-    let none = [0usize; 0];
-    sheets::check(values, &none, false, limits, set, sheet)
+    sheets::check(values, &[], false, limits, set, sheet)
 }
 
 fn write(values: &[f64], limits: Limits, set: RuleSet, room: &mut [u8]) -> Written {
-    let none = [0usize; 0];
-    sheets::write(values, &none, false, limits, set, room)
+    sheets::write(values, &[], false, limits, set, room)
 }
 
 // The length of the sheet that is written into the room, or 0 where it is refused.

@@ -126,8 +126,7 @@ fn mark_values(
     ensures { λ r. ⌜ now (marks .exit) ≡ bytesAfter (unstopped limits) (set .mask) (now (values .entry)) (now (marks .entry)) ⌝ }
 {
     let n = values.len();
-    let none = [0usize; 0];
-    let marked = rules::mark(values, &none, false, limits, set, ms).number();
+    let marked = rules::mark(values, &[], false, limits, set, ms).number();
     if marked != 0 {
         return wide(marked);
     }
@@ -198,10 +197,9 @@ fn check_in(values: &[u8], limits: Limits, set: u32, vs: &mut [f64], sheet: &[u8
     if refused != 0 {
         return refused;
     }
-    let none = [0usize; 0];
     pack(sheets::check(
         &vs[0..n],
-        &none,
+        &[],
         false,
         limits,
         RuleSet { mask: set as u16 },
@@ -219,10 +217,9 @@ fn write_in(values: &[u8], limits: Limits, set: u32, vs: &mut [f64], sheet: &mut
     if refused != 0 {
         return refused;
     }
-    let none = [0usize; 0];
     pack_length(sheets::write(
         &vs[0..n],
-        &none,
+        &[],
         false,
         limits,
         RuleSet { mask: set as u16 },
