@@ -75,10 +75,11 @@ withStops c stops = record { kind = c .kind; size = c .size; count = c .count; s
 
 -- ---- "New chart: 14 for the kind, 1."
 
--- "A new chart has shewhart.", and a count of stops that is "0 when new"
+-- "A new chart has shewhart."
 abbrev pub newSet : RuleSet
 newSet = record { mask = 1 }
 
+-- with a count of stops that is "0 when new" (02, R-1)
 abbrev pub newChart : ℕ → ℕ → Chart
 newChart kind size = record { kind = kind; size = size; count = 0; set = newSet; stops = 0 }
 

@@ -3,7 +3,7 @@ use mathlib.Core.Path.{_≡_, refl, sym, _∙_}
 use mathlib.Core.Bool.{Bool, true, false, not, _&&_}
 use mathlib.Core.List.{List, [], _∷_}
 use Prim.Native.Nat.{ℕ}
-use lib.Ieee.{Float, binary64, ofBits, add, sub, mul, div, lt, le}
+use lib.Ieee.{binary64, ofBits, add, sub, mul, div, lt, le}
 use lib.ListN.{replicate}
 use Rattle.laws.specs.Bools.{every, count}
 use Rattle.laws.specs.Bits.{hasBit, fromBits}

@@ -1,18 +1,17 @@
 -- Stops as a mask on marks: behind a cut more, what stands is what stood and whose window is within what is left. So marks with stops are
 -- marks without them, less what the first marks of a series lack. Assumes nothing.
 use mathlib.Core.Path.{_≡_, refl, sym, ap, ap₂, _∙_, fun-ext}
-use mathlib.Core.Bool.{Bool, true, false, _&&_, _||_, cond, and-false, or-false, or-true}
+use mathlib.Core.Bool.{Bool, true, false, _&&_, _||_, cond, or-false, or-true}
 use mathlib.Core.List.{List, [], _∷_, _++_}
 use Prim.Native.Nat.{ℕ, zero, suc, _-_, _+_, _≤_, _<_}
 use native.Mathlib.Nat.{zero-add, sub-zero}
-use native.Mathlib.Numerals.{add-one}
 use native.Mathlib.Omega.{arith}
-use borrow.Author.Tests.{le-leb, lt-leb, leb-true, leb-false, lt-ltb, le-ltb, ltb-true, ltb-false, eq-eqb, ne-eqb, eqb-true, eqb-false}
+use borrow.Author.Tests.{le-leb, lt-leb, leb-true, leb-false, lt-ltb, ltb-true, ltb-false, eq-eqb, ne-eqb, eqb-true, eqb-false}
 use lib.Bits.{bitAnd, and-comm}
-use lib.Dec.{leb, ltb, eqb, eqb·suc-suc}
+use lib.Dec.{leb, ltb, eqb}
 use lib.Ieee.{Float, nan}
-use lib.ListN.{length, take, drop, getD, length-append, length-drop, drop-of-length-le, List·getD-append}
-use lib.Seq.{drop-cons, take-at, drop-at, take-take, take-all, length-take-le, ext-getD, getD-drop, getD-append-add}
+use lib.ListN.{length, take, drop, getD, length-append, length-drop, List·getD-append}
+use lib.Seq.{take-at, drop-at, take-take, take-all, length-take-le, ext-getD, getD-drop, getD-append-add}
 use Rattle.laws.specs.Lists.{tabulate}
 use Rattle.laws.specs.Front.{atFront}
 use Rattle.laws.proofs.Lists.{length-tabulate, getD-tabulate, same-tabulate}

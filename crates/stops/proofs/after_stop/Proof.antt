@@ -1,6 +1,5 @@
 -- `stops::after_stop` meets its contract: both cuts of the stop, or one. Assumes nothing.
-use mathlib.Core.Path.{sym, ap, _∙_}
-use Prim.Native.Nat.{ℕ}
+use mathlib.Core.Path.{ap, _∙_}
 use borrow.Author.Tests.{ltb-true}
 use Rattle.laws.proofs.Bools.{both}
 use Rattle.stops.specs.Cuts.{nearer}

@@ -1,7 +1,6 @@
 -- `stops::past_the_last` meets its contract. Assumes nothing.
-use mathlib.Core.Path.{sym, ap, _∙_}
+use mathlib.Core.Path.{sym, ap}
 use mathlib.Core.Bool.{Bool}
-use Prim.Native.Nat.{ℕ}
 use lib.Dec.{leb}
 use Rattle.stops.specs.Stops.{mainPoints}
 use Rattle.stops.proofs.past_the_last.Statement.{statement}

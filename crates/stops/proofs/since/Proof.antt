@@ -1,7 +1,6 @@
 -- `stops::since` meets its contract: one stop after the other. Assumes nothing.
 use mathlib.Core.Path.{_≡_, refl, sym, ap, _∙_}
-use Prim.Native.Nat.{ℕ, _+_, _-_, _≤_}
-use native.Mathlib.Omega.{arith}
+use Prim.Native.Nat.{_+_, _-_, _≤_}
 use lib.ListN.{length, drop}
 use Rattle.stops.specs.Cuts.{byStops, nearer}
 use Rattle.stops.proofs.Cuts.{stops-next, stops-none, since-stops}

@@ -1,8 +1,7 @@
 -- `stops::wrong` meets its contract: one position after the other, each behind the last. Assumes nothing.
-use mathlib.Core.Path.{_≡_, sym, ap, ap₂, _∙_}
+use mathlib.Core.Path.{_≡_, sym, ap, _∙_}
 use mathlib.Core.Bool.{Bool, _||_}
-use Prim.Native.Nat.{ℕ, _+_, _-_, _≤_}
-use native.Mathlib.Omega.{arith}
+use Prim.Native.Nat.{_+_, _-_, _≤_}
 use lib.Dec.{leb}
 use lib.ListN.{length, drop, getD}
 use Rattle.stops.specs.Stops.{stopsWrong, mainPoints}

@@ -8,7 +8,6 @@ use Rattle.evaluating.specs.declared.Evaluation.{Evaluation}
 use Rattle.evaluating.specs.declared.limits.Measured.{Measured}
 use Rattle.evaluating.specs.Asked.{Asked, asked, interrupted}
 use Rattle.evaluating.specs.Limits.{limitsOf}
-use Rattle.evaluating.specs.Series.{seriesOf}
 use Rattle.evaluating.specs.Evaluating.{answerDone, positionsWrong, noRoom, sound}
 use Rattle.evaluating.specs.Steps.{measured}
 use Rattle.evaluating.proofs.SeriesPoints.{moving-main, moving-is}

@@ -1,9 +1,7 @@
 -- `rules::cuts::part` meets its contract: one stop after the other. Assumes nothing.
 use mathlib.Core.Path.{_≡_, refl, sym, ap, _∙_}
-use mathlib.Core.List.{List}
-use Prim.Native.Nat.{ℕ, _+_, _-_, _≤_}
-use native.Mathlib.Omega.{arith}
-use lib.ListN.{length, drop, getD}
+use Prim.Native.Nat.{_+_, _-_, _≤_}
+use lib.ListN.{length, drop}
 use Rattle.stops.specs.Cuts.{byStops}
 use Rattle.rules.specs.Cuts.{cutMarks}
 use Rattle.stops.proofs.Cuts.{stops-next, stops-none}
