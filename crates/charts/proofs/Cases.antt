@@ -1,6 +1,6 @@
 -- What goes by the kind, case by case. Assumes nothing.
-use mathlib.Core.Path.{_≡_, refl, sym, _∙_}
-use mathlib.Core.Bool.{Bool, true, false, cond, not, _||_}
+use mathlib.Core.Path.{_≡_, refl}
+use mathlib.Core.Bool.{Bool, true, false, cond}
 use Prim.Native.Nat.{ℕ}
 use borrow.Author.Tests.{eq-eqb, ne-eqb}
 use lib.Dec.{eqb}
@@ -27,19 +27,3 @@ subgroups kind individuals both ne = rw (ne-eqb kind 1 ne) (same (eqb kind 2))
     same : (b : Bool) → cond b both both ≡ both
     same true = refl
     same false = refl
-
--- ---- what a function's answer tells of the test that it stands for
-
-pub told : {answer test said : Bool} → answer ≡ test → answer ≡ said → test ≡ said
-told e h = sym e ∙ h
-
-pub told-not : {answer test said : Bool} → answer ≡ test → not answer ≡ said → not test ≡ said
-told-not e h = rw e at h
-
-pub or-left : (a b : Bool) → (a || b) ≡ false → a ≡ false
-or-left true b e = e
-or-left false b e = refl
-
-pub or-right : (a b : Bool) → (a || b) ≡ false → b ≡ false
-or-right true b e = cc
-or-right false b e = e

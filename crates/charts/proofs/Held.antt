@@ -7,10 +7,11 @@ use native.Mathlib.Nat.{mul-le-mul-right, mul-le-mul-left, le-trans}
 use native.Mathlib.Omega.{arith}
 use borrow.Author.Tests.{ltb-false, eqb-true, not-false}
 use lib.Dec.{ltb, eqb}
+use Rattle.laws.proofs.Bools.{or-left, or-right}
 use Rattle.sets.specs.Sets.{tooLarge}
 use Rattle.charts.specs.declared.Chart.{Chart}
 use Rattle.charts.specs.Records.{kindWrong, subgroupWrong, sizeWrong, ownWrong, recordWrong}
-use Rattle.charts.proofs.Cases.{kind-1, subgroups, or-left, or-right}
+use Rattle.charts.proofs.Cases.{kind-1, subgroups}
 
 -- ---- sizes
 

@@ -8,11 +8,12 @@ use native.Mathlib.Omega.{arith}
 use borrow.Author.Tests.{le-ltb, ltb-false, eq-eqb, ne-eqb, not-true}
 use lib.Dec.{ltb, eqb}
 use lib.Ieee.{Float}
-use lib.ListN.{length, take, drop, replicate}
+use lib.ListN.{length, take, drop}
 use Rattle.laws.specs.Bools.{every}
 use Rattle.laws.specs.Refusals.{firstOf}
-use Rattle.laws.specs.Front.{atFront}
-use Rattle.laws.proofs.Bools.{both}
+use Rattle.laws.specs.Front.{lentAfter}
+use Rattle.laws.proofs.Bools.{both, or-left, or-right}
+use Rattle.laws.proofs.LentAfter.{slice-kept}
 use Rattle.laws.proofs.Refusals.{Passed, passed, refused, none-applies, first-append, first-else, first-such, were-passed}
 use Rattle.floats.specs.Finite.{allFinite}
 use Rattle.rules.specs.declared.Limits.{Limits}
@@ -26,7 +27,7 @@ use Rattle.charts.specs.declared.Chart.{Chart}
 use Rattle.charts.specs.declared.Refusal.{Refusal}
 use Rattle.charts.specs.Records.{number, recordWrong}
 use Rattle.charts.proofs.Answers.{number-some}
-use Rattle.charts.proofs.Cases.{kind-1, subgroups, or-left, or-right}
+use Rattle.charts.proofs.Cases.{kind-1, subgroups}
 use Rattle.charts.proofs.Held.{held}
 use Rattle.evaluating.specs.declared.checks.Tested.{Tested}
 use Rattle.evaluating.specs.declared.checks.Tested.the-variants as testing
@@ -34,7 +35,7 @@ use Rattle.evaluating.specs.Asked.{Asked, stopsAmong}
 use Rattle.evaluating.specs.Series.{pointsIn, seriesOf, movingIn}
 use Rattle.evaluating.specs.Limits.{limitsOf}
 use Rattle.evaluating.specs.Evaluating.{answerDone, answerRefused, positionsWrong, tooFew, noRoom, sound, refusals}
-use Rattle.evaluating.specs.Evaluating.{seriesMarks, numberOf, doneOf, answerFor, evaluateOf, lentAfter}
+use Rattle.evaluating.specs.Evaluating.{seriesMarks, numberOf, doneOf, answerFor, evaluateOf}
 use Rattle.evaluating.specs.Steps.{ahead, tested}
 use Rattle.evaluating.proofs.SeriesPoints.{points-most, main-points, length-series}
 
@@ -125,14 +126,10 @@ module _ (a : Asked) (wrong short : Bool) where
         ∙ ap (λ (b : Bool). cond b (firstOf (drop 5 (refusals a wrong short)) 0) (number why)) (ne-eqb (number why) 0 (number-some why))
 
     pub slice-refused : {A : Type 0} (nought : A) (written old : List A) → old ≡ lentAfter (number why) nought written old
-    unfolding lentAfter every
+    unfolding every
     slice-refused nought written old =
-        let at-7 : eqb (number why) 7 ≡ false =
-        ap (λ (n : ℕ). eqb n 7) (sym e) ∙ not-true (eqb (firstOf (ahead a wrong short) 0) 7) (first-such (λ n. not (eqb n 7)) (ahead a wrong short) refl refl) in
-        sym
-        (ap (λ (z : Bool). cond z (atFront written old) (cond (eqb (number why) 7) (replicate (length old) nought) old))
-        (ne-eqb (number why) 0 (number-some why))
-        ∙ ap (λ (z : Bool). cond z (replicate (length old) nought) old) at-7)
+        slice-kept nought written old (number why) (number-some why)
+        (ap (λ (n : ℕ). eqb n 7) (sym e) ∙ not-true (eqb (firstOf (ahead a wrong short) 0) 7) (first-such (λ n. not (eqb n 7)) (ahead a wrong short) refl refl))
 
 -- ---- the answer, by its number
 
@@ -147,18 +144,6 @@ module _ (a : Asked) (short : Bool) where
   pub answer-done : firstOf (refusals a (positionsWrong (a .chart) (a .positions)) short) 0 ≡ 0 → doneOf a ≡ evaluateOf a short
   unfolding evaluateOf answerFor
   answer-done is = sym (ap (λ (k : ℕ). answerFor k a) is)
-
--- ---- the slices at 7 and at 0
-
-pub slice-7 : {A : Type 0} (nought : A) (written old between : List A) {now : List A} → length between ≡ length old
-    → now ≡ replicate (length between) nought → now ≡ lentAfter 7 nought written old
-unfolding lentAfter
-slice-7 nought written old between k e = e ∙ ap (λ (n : ℕ). replicate n nought) k
-
-pub slice-done : {A : Type 0} (nought : A) (made written old : List A) {now : List A} → now ≡ atFront made old → made ≡ written
-    → now ≡ lentAfter 0 nought written old
-unfolding lentAfter
-slice-done nought made written old e f = e ∙ ap (λ (l : List _). atFront l old) f
 
 -- ---- sound: marking refuses neither series
 

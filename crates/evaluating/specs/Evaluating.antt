@@ -4,10 +4,9 @@ use mathlib.Core.Bool.{Bool, cond, not, _&&_, _||_}
 use mathlib.Core.List.{List, [], _∷_, map}
 use Prim.Native.Nat.{ℕ, _+_}
 use lib.Dec.{ltb, eqb}
-use lib.ListN.{length, replicate}
+use lib.ListN.{length}
 use Rattle.laws.specs.Bools.{count}
 use Rattle.laws.specs.Refusals.{firstOf}
-use Rattle.laws.specs.Front.{atFront}
 use Rattle.stops.specs.Stops.{stopsWrong}
 use Rattle.sets.specs.Sets.{tests, has}
 use Rattle.rules.specs.declared.Limits.{Limits}
@@ -106,10 +105,3 @@ answerFor n a = cond (eqb n 0) (doneOf a) (answerRefused n)
 
 unfoldable pub evaluateOf : Asked → Bool → Answer
 evaluateOf a short = answerFor (firstOf (refusals a (positionsWrong (a .chart) (a .positions)) short) 0) a
-
--- ---- the lent slices
-
--- A lent slice after the number n was answered: what was to be written stands at its front; "for 7 .. zero throughout"; at any other
--- refusal "as it came".
-unfoldable pub lentAfter : {A : Type 0} → ℕ → A → List A → List A → List A
-lentAfter n nought written old = cond (eqb n 0) (atFront written old) (cond (eqb n 7) (replicate (length old) nought) old)

@@ -15,13 +15,13 @@ ghost use mathlib.Core.Bool.{false};
 ghost use Prim.Native.Nat.{_+_};
 ghost use lib.ListN.{length};
 ghost use Rattle.laws.specs.Refusals.{firstOf};
-ghost use Rattle.laws.specs.Front.{atFront};
+ghost use Rattle.laws.specs.Front.{atFront, lentAfter};
 ghost use Rattle.rules.specs.Terms.{under};
 ghost use Rattle.rules.specs.Marking.{marksOf, answerOf};
 ghost use Rattle.floats.specs.Values.{plusZero};
 ghost use Rattle.evaluating.specs.Asked.{asked, interrupted};
 ghost use Rattle.evaluating.specs.Series.{seriesOf};
-ghost use Rattle.evaluating.specs.Evaluating.{evaluated, positionsWrong, noRoom, seriesMarks, numberOf, evaluateOf, lentAfter};
+ghost use Rattle.evaluating.specs.Evaluating.{evaluated, positionsWrong, noRoom, seriesMarks, numberOf, evaluateOf};
 ghost use Rattle.evaluating.specs.Steps.{ahead};
 
 // Marks both series; `moving` says whether that of the dispersion is one of moving ranges.

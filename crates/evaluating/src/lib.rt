@@ -14,10 +14,11 @@ use checks::Tested;
 use rules::Limits;
 ghost use mathlib.Core.Path.{_≡_};
 ghost use lib.ListN.{length};
+ghost use Rattle.laws.specs.Front.{lentAfter};
 ghost use Rattle.floats.specs.Values.{plusZero};
 ghost use Rattle.evaluating.specs.Asked.{asked, interrupted};
 ghost use Rattle.evaluating.specs.Series.{seriesOf, lengths, pointsOf};
-ghost use Rattle.evaluating.specs.Evaluating.{evaluated, noRoom, evaluateOf, seriesMarks, lentAfter};
+ghost use Rattle.evaluating.specs.Evaluating.{evaluated, noRoom, evaluateOf, seriesMarks};
 ghost use Rattle.evaluating.specs.Sigma.{figured, estimated, sigmaHatOf, sigmaHatDfOf, estimateOf};
 
 /// What [`points`] answers.

@@ -1,13 +1,13 @@
 -- A slice that is filled from the front, one entry at a time, with the entries of a list: the invariant of every loop that
 -- writes one. Assumes nothing.
 use mathlib.Core.Path.{_≡_, refl, sym, ap, ap₂, _∙_}
-use mathlib.Core.List.{List, _++_}
+use mathlib.Core.List.{List, _++_, append-nil}
 use Prim.Native.Nat.{ℕ, suc, _+_, _≤_, _<_}
-use native.Mathlib.Nat.{zero-add}
+use native.Mathlib.Nat.{zero-add, add-zero}
 use native.Mathlib.Numerals.{add-one}
 use native.Mathlib.Omega.{arith}
-use lib.ListN.{length, getD, take, drop, set, length-drop, length-append}
-use lib.Seq.{paste, paste-suc, length-take-le, take-length}
+use lib.ListN.{length, getD, take, drop, set, length-drop, length-append, drop-of-length-le}
+use lib.Seq.{paste, paste-suc, length-take-le, take-length, getD-append-add, getD-drop}
 use Rattle.laws.specs.Lists.{tabulate}
 use Rattle.laws.specs.Front.{atFront}
 use Rattle.laws.proofs.Lists.{length-tabulate, getD-tabulate}
@@ -56,6 +56,10 @@ module _ {A : Type 0} (xs old : List A) where
         let all : i ≡ length xs = omega (arith, f .within) in
         f .holds ∙ ap (filled xs old) all ∙ ap (λ (l : List A). l ++ drop (length xs) old) (take-length xs)
 
+-- a front that is the whole
+pub front-all : {A : Type 0} (xs old : List A) → length old ≤ length xs → atFront xs old ≡ xs
+front-all xs old h = ap (λ (l : List _). xs ++ l) (drop-of-length-le old h) ∙ append-nil xs
+
 -- The same where the list is a table: entry i is f i.
 module _ {A : Type 0} (f : ℕ → A) (n : ℕ) (old : List A) where
   abbrev pub Tabling : List A → ℕ → Type 0
@@ -77,3 +81,18 @@ module _ {A : Type 0} (f : ℕ → A) (n : ℕ) (old : List A) where
 
     pub tabling-ends : n ≤ i → now ≡ atFront (tabulate f n) old
     tabling-ends h = filling-ends (tabulate f n) old now i t (omega (arith, length-tabulate f n))
+
+    -- the table is all of the slice
+    pub tabling-all : length old ≤ n → n ≤ i → now ≡ tabulate f n
+    tabling-all h e = tabling-ends e ∙ front-all (tabulate f n) old (omega (arith, length-tabulate f n))
+
+    -- what is still to be changed is as it was
+    pub in-place : (z : A) → getD now i z ≡ getD old i z
+    in-place z =
+        let xs = tabulate f n in
+        let here : i ≡ length (take i xs) + 0 = omega (arith, length-take-le i xs (t .within)) in
+        ap (λ (l : List A). getD l i z) (t .holds)
+        ∙ ap (λ (k : ℕ). getD (take i xs ++ drop i old) k z) here
+        ∙ getD-append-add (take i xs) (drop i old) 0 z
+        ∙ getD-drop i old 0 z
+        ∙ ap (λ (k : ℕ). getD old k z) (add-zero i)

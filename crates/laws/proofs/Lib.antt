@@ -10,3 +10,4 @@ pub mod Lending
 pub mod Rooms
 pub mod OneValue
 pub mod Refusals
+pub mod LentAfter

@@ -1,10 +1,11 @@
 -- The length and the entries of a tabulated list. Assumes nothing.
 use mathlib.Core.Path.{_≡_, refl, sym, ap, _∙_}
-use mathlib.Core.List.{List, _∷_}
+use mathlib.Core.List.{List, [], _∷_, map}
 use Prim.Native.Nat.{ℕ, zero, suc, _+_, _≤_, _<_}
 use native.Mathlib.Nat.{add-zero, zero-add, add-suc, suc-add, le-of-suc-le-suc}
 use native.Mathlib.Omega.{arith}
 use lib.ListN.{length, getD, take}
+use lib.Seq.{getD-take, length-take-le}
 use Rattle.laws.specs.Lists.{tabulateFrom, tabulate}
 
 module _ {A : Type 0} (f : ℕ → A) where
@@ -43,3 +44,22 @@ same-from f g i (suc n) h = rw (h i (omega arith)) (ap (λ (l : List _). g i ∷
 
 pub same-tabulate : {A : Type 0} (f g : ℕ → A) (n : ℕ) → ((k : ℕ) → k < n → f k ≡ g k) → tabulate f n ≡ tabulate g n
 same-tabulate f g n h = same-from f g 0 n (λ k q. h k (omega arith))
+
+-- a table over the entries of a list's front
+pub tabulate-front : {A B : Type 0} (f : ℕ → A → B) (xs : List A) (n : ℕ) (z : A) → n ≤ length xs
+    → tabulate (λ i. f i (getD xs i z)) n ≡ tabulate (λ i. f i (getD (take n xs) i z)) (length (take n xs))
+tabulate-front f xs n z h =
+    same-tabulate (λ i. f i (getD xs i z)) (λ i. f i (getD (take n xs) i z)) n (λ k q. ap (f k) (sym (getD-take n xs k z q)))
+    ∙ ap (tabulate (λ i. f i (getD (take n xs) i z))) (sym (length-take-le n xs h))
+
+-- a table over all entries of a list is the list, each entry changed
+from-suc : {A : Type 0} (f : ℕ → A) (i n : ℕ) → tabulateFrom f (suc i) n ≡ tabulateFrom (λ k. f (suc k)) i n
+unfolding tabulateFrom
+from-suc f i zero = refl
+from-suc f i (suc n) = ap (λ (l : List _). f (suc i) ∷ l) (from-suc f (suc i) n)
+
+pub tabulate-map : {A B : Type 0} (f : A → B) (xs : List A) (z : A) → tabulate (λ i. f (getD xs i z)) (length xs) ≡ map f xs
+unfolding tabulateFrom
+tabulate-map f [] z = refl
+tabulate-map f (x ∷ xs) z =
+    ap (λ (l : List _). f x ∷ l) (from-suc (λ i. f (getD (x ∷ xs) i z)) 0 (length xs) ∙ tabulate-map f xs z)

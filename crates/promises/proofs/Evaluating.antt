@@ -5,11 +5,12 @@ use mathlib.Core.List.{List}
 use Prim.Native.Nat.{ℕ}
 use denote.Ref.{now}
 use lib.Ieee.{Float}
+use Rattle.laws.specs.Front.{lentAfter}
 use Rattle.floats.specs.Values.{plusZero}
 use Rattle.evaluating.specs.declared.Evaluated.{Evaluated}
 use Rattle.evaluating.specs.Asked.{asked, interrupted}
 use Rattle.evaluating.specs.Series.{seriesOf}
-use Rattle.evaluating.specs.Evaluating.{Answer, seriesMarks, lentAfter}
+use Rattle.evaluating.specs.Evaluating.{Answer, seriesMarks}
 use Rattle.evaluating.proofs.Answers.{lengths-one, evaluated-one, estimated-one, figured-one}
 use Rattle.evaluating.proofs.Lengths.number.Reads as lengths-number
 use Rattle.evaluating.proofs.Lengths.number.Kinds as lengths-number-kinds

@@ -11,7 +11,7 @@ use lib.ListN.{length, replicate}
 use Rattle.laws.specs.Bools.{every, count}
 use Rattle.laws.specs.Bits.{hasBit, fromBits}
 use Rattle.laws.specs.Lists.{tabulateFrom}
-use Rattle.laws.specs.Front.{atFrontIfRoom, roomFor}
+use Rattle.laws.specs.Front.{atFrontIfRoom, roomFor, lentAfter}
 use Rattle.laws.specs.Refusals.{firstOf, each}
 use Rattle.groups.specs.declared.Reading.{Reading}
 use Rattle.groups.specs.declared.Reading.the-variants.{Number, Fault}
@@ -36,7 +36,7 @@ use Rattle.evaluating.specs.Asked.{asked}
 use Rattle.evaluating.specs.Factors.{factorOf}
 use Rattle.evaluating.specs.Series.{bySeries, pointAt, pointsIn, seriesOf}
 use Rattle.evaluating.specs.Limits.{factorFor, mainLimits, lowerLimit, dispersionLimits, centreOf, limitsOf}
-use Rattle.evaluating.specs.Evaluating.{positionsWrong, tooFew, noRoom, sound, answerFor, evaluateOf, lentAfter}
+use Rattle.evaluating.specs.Evaluating.{positionsWrong, tooFew, noRoom, sound, answerFor, evaluateOf}
 use Rattle.sheets.specs.Sheet.{marked, entriesOf, sheetOf}
 use Rattle.sheets.specs.Said.{entries, saidFrom}
 use Rattle.sheets.specs.Answers.{firstWrong, checkOf, seriesSheet, writeOf, roomAfter}

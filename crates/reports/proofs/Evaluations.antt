@@ -13,6 +13,7 @@ use lib.Ieee.{Float}
 use lib.ListN.{length, take}
 use lib.Seq.{take-all, take-at}
 use Rattle.laws.specs.Refusals.{firstOf}
+use Rattle.laws.specs.Front.{lentAfter}
 use Rattle.laws.proofs.Lists.{length-tabulate}
 use Rattle.laws.proofs.Refusals.{accepted}
 use Rattle.floats.specs.Finite.{allFinite}
@@ -30,7 +31,7 @@ use Rattle.evaluating.specs.Asked as asking
 use Rattle.evaluating.specs.Asked.{Asked}
 use Rattle.evaluating.specs.Series.{pointsIn, seriesOf}
 use Rattle.evaluating.specs.Limits.{limitsOf}
-use Rattle.evaluating.specs.Evaluating.{Answer, evaluated, positionsWrong, tooFew, noRoom, sound, refusals, seriesMarks, numberOf, answerFor, evaluateOf, lentAfter}
+use Rattle.evaluating.specs.Evaluating.{Answer, evaluated, positionsWrong, tooFew, noRoom, sound, refusals, seriesMarks, numberOf, answerFor, evaluateOf}
 use Rattle.evaluating.proofs.SeriesPoints.{points-most, points-moving, points-subgroups, length-series}
 use Rattle.evaluating.proofs.Outcomes.{Sound, none-stopped, some-held, sound-parts}
 use Rattle.reports.specs.Text.{bothMarks, chartText, rLine}

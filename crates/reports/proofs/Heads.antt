@@ -7,6 +7,7 @@ use Prim.Native.Nat.{ℕ, _*_, _≤_}
 use native.Mathlib.Omega.{arith}
 use borrow.Author.Tests.{ltb-false, le-ltb}
 use lib.Dec.{ltb}
+use Rattle.laws.proofs.Bools.{or-left, or-right}
 use Rattle.groups.specs.declared.Reading.the-variants.{Number}
 use Rattle.groups.specs.Groups.{numberAt}
 use Rattle.groups.proofs.Onward.{in-place}
@@ -15,7 +16,6 @@ use Rattle.charts.specs.declared.Chart.{Chart}
 use Rattle.charts.specs.declared.Refusal.{Refusal}
 use Rattle.charts.specs.declared.Changed.the-variants.{Done, Refused}
 use Rattle.charts.specs.Records.{number, changed, noChart, newChart, newOf, withSet, withCount, kindWrong, sizeWrong, ownWrong}
-use Rattle.charts.proofs.Cases.{or-left, or-right}
 use Rattle.charts.proofs.Answers.{number-some}
 use Rattle.reports.specs.Flow.{Said, refused, countWrong}
 use Rattle.reports.specs.Flow as flow

@@ -11,6 +11,7 @@ use lib.Ieee.{Float}
 use lib.ListN.{length, length-append}
 use Rattle.laws.specs.Front.{atFront, atFrontIfRoom, roomFor}
 use Rattle.laws.specs.Refusals.{firstOf}
+use Rattle.laws.proofs.Bools.{or-left, or-right}
 use Rattle.groups.proofs.Onward.{by-number}
 use Rattle.sets.specs.declared.Test.{Test}
 use Rattle.sets.specs.Sets.{bitOf, tests, tooLarge, has}
@@ -18,7 +19,6 @@ use Rattle.sets.proofs.Sets.{bitOf-lt}
 use Rattle.floats.specs.Finite.{allFinite}
 use Rattle.charts.specs.declared.Chart.{Chart}
 use Rattle.charts.specs.Records.{kindWrong, sizeWrong, ownWrong}
-use Rattle.charts.proofs.Cases.{or-left, or-right}
 use Rattle.charts.proofs.Held.{own}
 use Rattle.evaluating.specs.Asked.{asked}
 use Rattle.evaluating.specs.Limits.{limitsOf}

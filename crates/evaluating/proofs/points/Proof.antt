@@ -1,8 +1,8 @@
 -- `points` meets its contract. Assumes nothing.
 use mathlib.Core.Path.{sym, ap₂, _∙_}
 use Prim.Native.Nat.{ℕ}
+use Rattle.laws.proofs.Bools.{told}
 use Rattle.laws.proofs.Refusals.{passed, refused, none-applies}
-use Rattle.charts.proofs.Cases.{told}
 use Rattle.evaluating.specs.Series.{pointsOf}
 use borrow.Author.Needs.{needs}
 use Rattle.evaluating.proofs.points.Statement.{statement}

@@ -16,12 +16,13 @@ use Rattle.evaluating.specs.declared.Evaluated.the-variants.{Done}
 use Rattle.evaluating.specs.Asked.{Asked, asked}
 use Rattle.evaluating.specs.Series.{pointsIn}
 use Rattle.evaluating.specs.Limits.{limitsOf}
-use Rattle.evaluating.specs.Evaluating.{evaluated, evaluateOf, seriesMarks, numberOf, lentAfter}
+use Rattle.evaluating.specs.Evaluating.{evaluated, evaluateOf, seriesMarks, numberOf}
 use Rattle.evaluating.proofs.SeriesPoints.{points-main}
 use Rattle.reports.specs.Text.{bothMarks, rLine}
 use Rattle.reports.specs.Report.{firstIndex, refusalOf}
 use Rattle.reports.specs.Steps.{size, Legal}
 use Rattle.reports.proofs.Marks.{both-number}
+use Rattle.laws.specs.Front.{lentAfter}
 use Rattle.laws.proofs.Rooms.{told-as}
 use Rattle.reports.proofs.Evaluations.{short, few-samples, points-fit, at-room, refused-so, done-so, main-limits, dispersion-limits, marks-number}
 use Rattle.reports.proofs.Evaluations.{some-points, finite-main, finite-dispersion, not-finite, report-refused, report-done}

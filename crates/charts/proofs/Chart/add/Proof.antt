@@ -5,10 +5,10 @@ use native.Mathlib.Omega.{arith}
 use borrow.Author.Tests.{lt-ltb, le-ltb, le-leb, lt-leb, eq-eqb, ne-eqb}
 use lib.Dec.{eqb}
 use lib.ListN.{length}
+use Rattle.laws.proofs.Bools.{told, told-not}
 use Rattle.laws.proofs.Refusals.{passed, refused, none-applies}
 use Rattle.floats.specs.Finite.{allFinite}
 use Rattle.charts.specs.Records.{recordWrong, addOf, valuesAfter}
-use Rattle.charts.proofs.Cases.{told, told-not}
 use Rattle.charts.proofs.Held.{Held, held}
 use Rattle.charts.proofs.Appending.{appended, lent-length, kept-length}
 use borrow.Author.Needs.{needs}

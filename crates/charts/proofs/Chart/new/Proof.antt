@@ -2,9 +2,9 @@
 use mathlib.Core.Path.{_≡_, sym, ap, _∙_}
 use mathlib.Core.Bool.{true}
 use Prim.Native.Nat.{ℕ}
+use Rattle.laws.proofs.Bools.{told}
 use Rattle.laws.proofs.Refusals.{passed, refused, none-applies}
 use Rattle.charts.specs.Records.{kindWrong, newOf}
-use Rattle.charts.proofs.Cases.{told}
 use borrow.Author.Needs.{needs}
 use Rattle.charts.proofs.Chart.new.Statement.{statement}
 use Rattle.charts.proofs.Chart.new.Tie as tie

@@ -1,7 +1,7 @@
 -- `Chart::record_wrong` meets its contract: the product is taken only where it is small. Assumes nothing.
 use native.Mathlib.Omega.{arith}
+use Rattle.laws.proofs.Bools.{told}
 use Rattle.charts.specs.Records.{recordWrong}
-use Rattle.charts.proofs.Cases.{told}
 use Rattle.charts.proofs.Held.{own}
 use borrow.Author.Needs.{needs}
 use Rattle.charts.proofs.Chart.record_wrong.Statement.{statement}

@@ -2,9 +2,9 @@
 use mathlib.Core.Path.{_≡_, sym, _∙_}
 use mathlib.Core.Bool.{true}
 use borrow.Author.Tests.{lt-ltb, le-ltb}
+use Rattle.laws.proofs.Bools.{told}
 use Rattle.laws.proofs.Refusals.{passed, refused, none-applies}
 use Rattle.charts.specs.Records.{ownWrong, withSetOf}
-use Rattle.charts.proofs.Cases.{told}
 use borrow.Author.Needs.{needs}
 use Rattle.charts.proofs.Chart.with_set.Statement.{statement}
 use Rattle.charts.proofs.Chart.with_set.Tie as tie

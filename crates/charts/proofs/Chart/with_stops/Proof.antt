@@ -1,9 +1,9 @@
 -- `Chart::with_stops` meets its contract: its one test is that of the definition. Assumes nothing.
 use mathlib.Core.Path.{_≡_, sym, _∙_}
 use mathlib.Core.Bool.{true}
+use Rattle.laws.proofs.Bools.{told}
 use Rattle.laws.proofs.Refusals.{passed, refused, none-applies}
 use Rattle.charts.specs.Records.{ownWrong, withStopsOf}
-use Rattle.charts.proofs.Cases.{told}
 use borrow.Author.Needs.{needs}
 use Rattle.charts.proofs.Chart.with_stops.Statement.{statement}
 use Rattle.charts.proofs.Chart.with_stops.Tie as tie

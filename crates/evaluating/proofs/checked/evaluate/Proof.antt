@@ -4,6 +4,7 @@ use mathlib.Core.Bool.{Bool, true}
 use native.Mathlib.Omega.{arith}
 use borrow.Author.Tests.{not-true, not-false}
 use lib.ListN.{length}
+use Rattle.laws.proofs.LentAfter.{slice-7, slice-done}
 use Rattle.evaluating.specs.declared.Evaluation.{Evaluation}
 use Rattle.evaluating.specs.declared.limits.Measured.{Measured}
 use Rattle.evaluating.specs.Asked.{Asked, asked, interrupted}
@@ -12,7 +13,7 @@ use Rattle.evaluating.specs.Evaluating.{answerDone, positionsWrong, noRo
 use Rattle.evaluating.specs.Steps.{measured}
 use Rattle.evaluating.proofs.SeriesPoints.{moving-main, moving-is}
 use Rattle.evaluating.proofs.Measures.{front-series, front-stops, same-series, same-measures}
-use Rattle.evaluating.proofs.Outcomes.{Rooms, rooms, Ahead, were-ahead, number-7, number-0, answer-refused, answer-done, slice-7, slice-done}
+use Rattle.evaluating.proofs.Outcomes.{Rooms, rooms, Ahead, were-ahead, number-7, number-0, answer-refused, answer-done}
 use Rattle.evaluating.proofs.Outcomes.{counted, sound-parts, marking-done, marks-are, done-by}
 use borrow.Author.Needs.{needs}
 use Rattle.evaluating.proofs.checked.evaluate.Statement.{statement}

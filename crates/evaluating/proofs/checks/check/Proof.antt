@@ -5,10 +5,10 @@ use Prim.Native.Nat.{ℕ, _*_}
 use native.Mathlib.Nat.{sub-zero}
 use native.Mathlib.Omega.{arith}
 use lib.ListN.{length, take}
+use Rattle.laws.proofs.Bools.{told, told-not}
 use Rattle.laws.proofs.Refusals.{passed, refused, none-applies}
 use Rattle.floats.specs.Finite.{allFinite}
 use Rattle.charts.specs.Records.{recordWrong}
-use Rattle.charts.proofs.Cases.{told, told-not}
 use Rattle.charts.proofs.Held.{held}
 use Rattle.evaluating.specs.Asked.{asked, stored}
 use Rattle.evaluating.specs.Evaluating.{tooFew}

@@ -4,10 +4,10 @@ use mathlib.Core.Bool.{false, not}
 use mathlib.Core.List.{List}
 use Prim.Native.Nat.{ℕ}
 use borrow.Author.Tests.{lt-ltb, le-ltb}
+use Rattle.laws.proofs.Bools.{told}
 use Rattle.sets.specs.Sets.{tooLarge}
 use Rattle.charts.specs.declared.Chart.{Chart}
 use Rattle.charts.specs.Records.{changed, noChart, newChart, withSet, withCount, kindWrong, sizeWrong}
-use Rattle.charts.proofs.Cases.{told}
 use Rattle.charts.proofs.Held.{size-bounds}
 use Rattle.reports.specs.declared.flow.Head.the-variants.{Names}
 use Rattle.reports.specs.Steps.{Legal, afterHead}
