@@ -1,4 +1,4 @@
-// The arithmetic of the charts: mean, largest and smallest, range, deviation, moving range (document 01, "The charts").
+// The arithmetic of the charts: sum and mean, largest and smallest, range, deviation, moving range (document 01, "The charts").
 use root::Rooted;
 ghost use mathlib.Core.Path.{_≡_};
 ghost use Prim.Native.Nat.{_-_};
@@ -6,7 +6,12 @@ ghost use lib.ListN.{getD};
 ghost use lib.Ieee.{nan};
 ghost use Rattle.arith.specs.Arith.{sumOf, meanOf, larger, smaller, largestOf, smallestOf, rangeOf, squaresOf, orNan, deviationOf, signCleared, movingOf};
 
-fn sum(s: &[f64]) -> f64
+/// The sum from +0.0, left to right. Of no values, +0.0.
+///
+/// Refuses nothing: what is not finite goes into the sum as it is.
+///
+/// `sum_of(&[1.0, 2.0, 6.0])` is 9.0, `sum_of(&[-0.0])` is +0.0.
+pub fn sum_of(s: &[f64]) -> f64
     ensures { λ r. ⌜ r ≡ sumOf (now (s .entry)) ⌝ }
 {
     let mut t = 0.0;
@@ -26,7 +31,7 @@ fn sum(s: &[f64]) -> f64
 pub fn mean_of(s: &[f64]) -> f64
     ensures { λ r. ⌜ r ≡ meanOf (now (s .entry)) ⌝ }
 {
-    sum(s) / std::num::nearest_u64_to_f64(s.len() as u64)
+    sum_of(s) / std::num::nearest_u64_to_f64(s.len() as u64)
 }
 
 // The first value; of none, a NaN.
@@ -117,7 +122,12 @@ fn squares(mean: f64, s: &[f64]) -> f64
     t
 }
 
-fn or_nan(r: Rooted) -> f64
+/// The root that was answered; a NaN where it was refused.
+///
+/// Refuses nothing.
+///
+/// `or_nan(root::root(9.0))` is 3.0, `or_nan(root::root(-1.0))` is a NaN.
+pub fn or_nan(r: Rooted) -> f64
     ensures { λ x. ⌜ x ≡ orNan r ⌝ }
 {
     match r {
