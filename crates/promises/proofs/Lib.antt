@@ -5,6 +5,7 @@ mod Floats
 mod Groups
 mod Root
 mod Arith
+pub mod Points
 mod Sets
 mod Stops
 mod Rules

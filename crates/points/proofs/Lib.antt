@@ -1,0 +1,3 @@
+-- Laws of the columns and of plotting.
+pub mod Filled
+pub mod Plotting

@@ -1,0 +1,26 @@
+// A point about a centre.
+ghost use mathlib.Core.Path.{_≡_};
+ghost use Rattle.points.specs.Points.{upperOf, lowerOf, zOf};
+
+// The upper limit.
+pub fn upper(cl: f64, sigma: f64) -> f64
+    ensures { λ r. ⌜ r ≡ upperOf cl sigma ⌝ }
+{
+    cl + 3.0 * sigma
+}
+
+// The lower limit.
+pub fn lower(cl: f64, sigma: f64) -> f64
+    ensures { λ r. ⌜ r ≡ lowerOf cl sigma ⌝ }
+{
+    let computed = cl - 3.0 * sigma;
+    if 0.0 < computed { computed } else { 0.0 }
+}
+
+// The value on the scale of its sigma; +0.0 where there is none. Divided in any case, so that a loop of it has no branch.
+pub fn standardized(value: f64, cl: f64, sigma: f64) -> f64
+    ensures { λ r. ⌜ r ≡ zOf value cl sigma ⌝ }
+{
+    let z = (value - cl) / sigma;
+    if 0.0 < sigma { z } else { 0.0 }
+}
