@@ -6,6 +6,7 @@ mod Groups
 mod Root
 mod Arith
 pub mod Points
+mod Attributes
 mod Sets
 mod Stops
 mod Rules

@@ -1,0 +1,8 @@
+-- Laws of the charts' records, of adding and of evaluating.
+pub mod Answers
+pub mod Judging
+pub mod Totalling
+pub mod Held
+pub mod Adding
+pub mod Outcomes
+mod Examples

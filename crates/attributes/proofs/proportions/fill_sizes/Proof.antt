@@ -1,0 +1,80 @@
+-- `proportions::fill_sizes` meets its contract: the entries are written one after the other. Assumes nothing.
+use Prim.Native.Nat.{_-_}
+use native.Mathlib.Omega.{arith}
+use lib.ListN.{getD}
+use Rattle.laws.proofs.Filling.{Tabling, tabling-starts, tabling-length, tabling-room, tabling-goes-on, tabling-ends}
+use Rattle.floats.specs.Values.{whole}
+use borrow.Author.Needs.{needs}
+use Rattle.attributes.proofs.proportions.fill_sizes.Statement.{statement}
+use Rattle.attributes.proofs.proportions.fill_sizes.Tie as tie
+
+abbrev Inv-loop : tie.InvT-loop
+Inv-loop n sizes out₀ i₀ out i = Tabling (λ k. whole (getD sizes k 0)) n out₀ out i
+
+abbrev μ-loop : tie.MeasureT-loop
+μ-loop n sizes out₀ i₀ out i = n - i
+
+loop-holds : tie.Need-loop-holds Inv-loop μ-loop
+loop-holds c = tabling-starts _ _ _ (c .before .before .pre .1)
+
+mul-nearest-u64-to-f64 : tie.Need-mul-nearest-u64-to-f64 Inv-loop μ-loop
+mul-nearest-u64-to-f64 c = search needs
+
+shared-slice-read-nearest-u64-to-f64 :
+    tie.Need-shared-slice-read-nearest-u64-to-f64 Inv-loop μ-loop
+shared-slice-read-nearest-u64-to-f64 c = search needs
+
+nearest-u64-to-f64-requires : tie.Need-nearest-u64-to-f64-requires Inv-loop μ-loop
+nearest-u64-to-f64-requires c κs = search needs
+
+mul-out : tie.Need-mul-out Inv-loop μ-loop
+mul-out c =
+    let loop-test = c .before .before .loop-test in
+    let loop = c .before .before .before .loop in
+    omega (arith, tabling-room _ _ _ _ _ (loop .inv) (loop-test .taken))
+
+slice-write-out : tie.Need-slice-write-out Inv-loop μ-loop
+slice-write-out c =
+    let loop-test = c .before .before .loop-test in
+    let loop = c .before .before .before .loop in
+    tabling-room _ _ _ _ _ (loop .inv) (loop-test .taken)
+
+add-i : tie.Need-add-i Inv-loop μ-loop
+add-i c = search needs
+
+loop-less : tie.Need-loop-less Inv-loop μ-loop
+loop-less c = search needs
+
+loop-again : tie.Need-loop-again Inv-loop μ-loop
+loop-again c =
+    let nearest-u64-to-f64 = c .nearest-u64-to-f64 in
+    let loop-test = c .before .before .loop-test in
+    let loop = c .before .before .before .loop in
+    tabling-goes-on _ _ _ _ _ (loop .inv) _ (loop-test .taken) (nearest-u64-to-f64 .ensures)
+
+same-length : tie.Need-same-length Inv-loop μ-loop
+same-length c = tabling-length _ _ _ _ _ (c .before .loop .inv)
+
+returns : tie.Need-returns Inv-loop μ-loop
+returns c =
+    let loop-test = c .loop-test in
+    let loop = c .before .loop in
+    tabling-ends _ _ _ _ _ (loop .inv) (loop-test .left)
+
+pub fill-sizes-spec : {M : Type 1} → statement M
+fill-sizes-spec =
+    tie.close
+    (tie.spec
+    Inv-loop
+    μ-loop
+    loop-holds
+    mul-nearest-u64-to-f64
+    shared-slice-read-nearest-u64-to-f64
+    nearest-u64-to-f64-requires
+    mul-out
+    slice-write-out
+    add-i
+    loop-less
+    loop-again
+    same-length
+    returns)
