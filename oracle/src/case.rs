@@ -58,12 +58,48 @@ pub struct StoppedChart {
     pub chart: ChartCase,
 }
 
+/// Which attribute chart (02, R-2): damaged per parcel inspected, or per unit.
+#[derive(Clone, Copy)]
+pub enum Attribute {
+    P,
+    U,
+}
+
+/// The record of an attribute chart, which may be no chart. A given centre stands as the bits of its f64, and so do the
+/// sizes of U's samples wherever samples stand.
+#[derive(Clone)]
+pub struct Record {
+    pub attribute: Attribute,
+    pub centre: Option<u64>,
+    pub count: u64,
+}
+
+/// Samples, a count and a size each, to be added one after another beside slices of these lengths.
+#[derive(Clone)]
+pub struct AddingCase {
+    pub record: Record,
+    pub counts: usize,
+    pub sizes: usize,
+    pub samples: Vec<(u64, u64)>,
+}
+
+/// A record with its two slices, to be evaluated into six slices of these lengths.
+#[derive(Clone)]
+pub struct AttributesCase {
+    pub record: Record,
+    pub counts: Vec<u64>,
+    pub sizes: Vec<u64>,
+    pub rooms: [usize; 6],
+}
+
 #[derive(Clone)]
 pub enum Case {
     Marks(MarksCase),
     Chart(ChartCase),
     StoppedMarks(StoppedMarks),
     StoppedChart(StoppedChart),
+    Adding(AddingCase),
+    Attributes(AttributesCase),
     /// The bytes that the report program is given: a flow file, or none.
     Flow(Vec<u8>),
 }
@@ -93,6 +129,8 @@ pub enum Answer {
     /// 15 of a chart, with sigma_hat and sigma_hat_df: these take no stops and answer all the same.
     BadStops([Figure; 2]),
     Evaluated(Evaluation),
+    /// All that an attribute case answers and leaves in its slices, as FORMAT.md has it.
+    Numbers(Vec<u64>),
     /// The report's text.
     Report(Vec<u8>),
 }

@@ -23,6 +23,7 @@ fn difference(case: &Case, stored: &Answer) -> Option<String> {
         (_, Answer::Marks(s), Answer::Marks(r)) => part_difference("marks", s, r),
         (_, Answer::Report(s), Answer::Report(r)) => part_difference("line", &lines(s), &lines(r)),
         (_, Answer::Evaluated(s), Answer::Evaluated(r)) => evaluation_difference(s, r),
+        (_, Answer::Numbers(s), Answer::Numbers(r)) => part_difference("number", s, r),
         (_, Answer::BadStops(s), Answer::BadStops(r)) => figures_difference(*s, *r),
         _ => part_difference("answer", &[number(stored)], &[number(&right)]),
     };

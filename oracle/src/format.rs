@@ -1,7 +1,8 @@
 //! The list as bytes; oracle/FORMAT.md describes the form. Every number is in groups of seven bits.
 
 use crate::case::{
-    Answer, Case, ChartCase, Evaluation, Figure, Limits, MarksCase, StoppedChart, StoppedMarks,
+    AddingCase, Answer, Attribute, AttributesCase, Case, ChartCase, Evaluation, Figure, Limits, MarksCase,
+    Record, StoppedChart, StoppedMarks,
 };
 use crate::scope;
 
@@ -12,6 +13,10 @@ const CHART: u64 = 2;
 const FLOW: u64 = 3;
 const STOPPED_MARKS: u64 = 4;
 const STOPPED_CHART: u64 = 5;
+const P_ADDING: u64 = 6;
+const U_ADDING: u64 = 7;
+const P_EVALUATING: u64 = 8;
+const U_EVALUATING: u64 = 9;
 
 /// What leads an answer that is no refusal.
 const DONE: u64 = 0;
@@ -111,6 +116,22 @@ fn put_case(out: &mut Vec<u8>, case: &Case) {
             put_stops(out, &c.list);
             put_chart_case(out, &c.chart);
         }
+        Case::Adding(c) => {
+            put(out, tag_of(c.record.attribute, P_ADDING, U_ADDING));
+            put_record(out, &c.record);
+            put_lengths(out, &[c.counts, c.sizes, c.samples.len()]);
+            for &(count, size) in &c.samples {
+                put_numbers(out, &[count, size]);
+            }
+        }
+        Case::Attributes(c) => {
+            put(out, tag_of(c.record.attribute, P_EVALUATING, U_EVALUATING));
+            put_record(out, &c.record);
+            put_lengths(out, &[c.counts.len(), c.sizes.len()]);
+            put_numbers(out, &c.counts);
+            put_numbers(out, &c.sizes);
+            put_lengths(out, &c.rooms);
+        }
     }
 }
 
@@ -131,9 +152,32 @@ fn put_chart_case(out: &mut Vec<u8>, c: &ChartCase) {
 
 /// A list of stops, led by how many they are.
 fn put_stops(out: &mut Vec<u8>, stops: &[u64]) {
-    put(out, stops.len() as u64);
-    for &p in stops {
-        put(out, p);
+    put_lengths(out, &[stops.len()]);
+    put_numbers(out, stops);
+}
+
+fn put_record(out: &mut Vec<u8>, record: &Record) {
+    put(out, record.centre.is_some().into());
+    put_numbers(out, record.centre.as_slice());
+    put(out, record.count);
+}
+
+fn put_numbers(out: &mut Vec<u8>, numbers: &[u64]) {
+    for &n in numbers {
+        put(out, n);
+    }
+}
+
+fn put_lengths(out: &mut Vec<u8>, lengths: &[usize]) {
+    for &n in lengths {
+        put(out, n as u64);
+    }
+}
+
+fn tag_of(attribute: Attribute, p: u64, u: u64) -> u64 {
+    match attribute {
+        Attribute::P => p,
+        Attribute::U => u,
     }
 }
 
@@ -161,6 +205,7 @@ fn put_answer(out: &mut Vec<u8>, case: &Case, answer: &Answer) {
             put(out, DONE);
             put_evaluation(out, e);
         }
+        Answer::Numbers(numbers) => put_numbers(out, numbers),
         Answer::Report(text) => put_bytes(out, text),
     }
 }
@@ -205,13 +250,17 @@ pub fn read(bytes: &[u8]) -> Result<Vec<Judged>, Fault> {
     let stated = r.number("number of cases")?;
     let mut list = Vec::new();
     loop {
-        list.push(match r.number_within(END, STOPPED_CHART, "tag")? {
+        list.push(match r.number_within(END, U_EVALUATING, "tag")? {
             END => break,
             MARKS => r.marks_case()?,
             CHART => r.chart_case()?,
             FLOW => r.flow_case()?,
             STOPPED_MARKS => r.stopped_marks()?,
-            _ => r.stopped_chart()?,
+            STOPPED_CHART => r.stopped_chart()?,
+            P_ADDING => r.adding_case(Attribute::P)?,
+            U_ADDING => r.adding_case(Attribute::U)?,
+            P_EVALUATING => r.attributes_case(Attribute::P)?,
+            _ => r.attributes_case(Attribute::U)?,
         });
     }
     if list.len() as u64 != stated {
@@ -299,7 +348,21 @@ impl Reader<'_> {
 
     fn stops(&mut self) -> Result<Vec<u64>, Fault> {
         let n = self.count("number of stops")?;
-        (0..n).map(|_| self.number("stop")).collect()
+        self.numbers(n, "stop")
+    }
+
+    fn numbers(&mut self, n: usize, what: &str) -> Result<Vec<u64>, Fault> {
+        (0..n).map(|_| self.number(what)).collect()
+    }
+
+    fn room(&mut self) -> Result<usize, Fault> {
+        Ok(self.number_within(0, scope::MOST_ROOM as u64, "length of a slice")? as usize)
+    }
+
+    fn record(&mut self, attribute: Attribute) -> Result<Record, Fault> {
+        let given = self.number_within(0, 1, "given or not")? == 1;
+        let centre = if given { Some(self.number("centre")?) } else { None };
+        Ok(Record { attribute, centre, count: self.number("number of samples")? })
     }
 
     fn marks_asked(&mut self) -> Result<MarksCase, Fault> {
@@ -354,6 +417,28 @@ impl Reader<'_> {
             number => Answer::Refused(number as u8),
         };
         Ok((Case::StoppedChart(StoppedChart { count, list, chart }), answer))
+    }
+
+    fn adding_case(&mut self, attribute: Attribute) -> Result<Judged, Fault> {
+        let record = self.record(attribute)?;
+        let (counts, sizes) = (self.room()?, self.room()?);
+        let n = self.number_within(0, scope::MOST_ROOM as u64, "number of samples")?;
+        let sample = |_| Ok((self.number("count")?, self.number("size")?));
+        let samples: Vec<(u64, u64)> = (0..n).map(sample).collect::<Result<_, Fault>>()?;
+        let answer = self.numbers(1 + samples.len() + 1 + counts + sizes, "answer")?;
+        Ok((Case::Adding(AddingCase { record, counts, sizes, samples }), Answer::Numbers(answer)))
+    }
+
+    fn attributes_case(&mut self, attribute: Attribute) -> Result<Judged, Fault> {
+        let record = self.record(attribute)?;
+        let (m, k) = (self.room()?, self.room()?);
+        let (counts, sizes) = (self.numbers(m, "count")?, self.numbers(k, "size")?);
+        let mut rooms = [0; 6];
+        for room in &mut rooms {
+            *room = self.room()?;
+        }
+        let answer = self.numbers(3 + rooms.iter().sum::<usize>(), "answer")?;
+        Ok((Case::Attributes(AttributesCase { record, counts, sizes, rooms }), Answer::Numbers(answer)))
     }
 
     fn flow_case(&mut self) -> Result<Judged, Fault> {

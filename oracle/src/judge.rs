@@ -1,7 +1,8 @@
-//! Puts a case to the published Rust and takes down what it says. What stops make of it is 02's (stops.rs).
+//! Puts a case to the published Rust and takes down what it says. What stops make of it is 02's (stops.rs); attribute charts
+//! stand in attributes.rs.
 
 use crate::case::{Answer, Case, ChartCase, Evaluation, Limits, MarksCase};
-use crate::{report, scope, stops};
+use crate::{attributes, report, scope, stops};
 use u_analytics::spc::chart::{ChartPoint, ControlChart, ControlLimits, ViolationType};
 use u_analytics::spc::rules::{RuleSet, RunRule};
 use u_analytics::spc::variables::{IndividualMRChart, XBarRChart, XBarSChart};
@@ -12,6 +13,8 @@ pub fn answer(case: &Case) -> Answer {
         Case::Chart(c) => chart(c),
         Case::StoppedMarks(c) => stops::marks(c),
         Case::StoppedChart(c) => stops::chart(c),
+        Case::Adding(c) => Answer::Numbers(attributes::added(c)),
+        Case::Attributes(c) => Answer::Numbers(attributes::evaluated(c)),
         Case::Flow(bytes) => Answer::Report(report::text(bytes)),
     }
 }

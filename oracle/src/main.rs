@@ -1,5 +1,6 @@
 //! The judge: the published Rust, asked by cases that are read and written as bytes.
 
+mod attributes;
 mod by_01;
 mod case;
 mod cases;
@@ -25,7 +26,7 @@ use std::process::ExitCode;
 
 const USAGE: &str =
     "usage: oracle list PART | fresh PART COUNT SEED PREFIX | check | pick K | smaller | show | sheets | report
-PART is marks, charts or reports; check, pick, smaller and show read a list from standard input, report a flow file.
+PART is marks, charts, attributes or reports; check, pick, smaller and show read a list from standard input, report a flow file.
 fresh writes PREFIX0, PREFIX1, ..";
 
 fn main() -> ExitCode {

@@ -18,6 +18,9 @@ pub const BAD_STOPS: u8 = 15;
 /// 01's bound on values, samples and points.
 pub const MOST: usize = 4096;
 
+/// The longest slice that a stored attribute chart has: some entries more than it may use.
+pub const MOST_ROOM: usize = MOST + 4;
+
 /// The largest rule set: all nine tests.
 pub const ALL_TESTS: u16 = 511;
 

@@ -1,7 +1,9 @@
 //! A case as one line for a reader. An f64 is shown in the shortest decimals that give it back.
 //! `most` is the number of values shown; two dots stand for the others.
 
-use crate::case::{Case, ChartCase, MarksCase, StoppedChart, StoppedMarks};
+use crate::case::{
+    AddingCase, Attribute, AttributesCase, Case, ChartCase, MarksCase, Record, StoppedChart, StoppedMarks,
+};
 
 pub fn case(case: &Case, most: usize) -> String {
     match case {
@@ -9,6 +11,8 @@ pub fn case(case: &Case, most: usize) -> String {
         Case::Chart(c) => chart_case(c, most),
         Case::StoppedMarks(c) => stopped_marks(c, most),
         Case::StoppedChart(c) => stopped_chart(c, most),
+        Case::Adding(c) => adding_case(c, most),
+        Case::Attributes(c) => attributes_case(c, most),
         Case::Flow(bytes) => flow_file(bytes, most),
     }
 }
@@ -35,6 +39,35 @@ fn stopped_marks(c: &StoppedMarks, most: usize) -> String {
 
 fn stopped_chart(c: &StoppedChart, most: usize) -> String {
     format!("{} counted of {}, {}", c.count, stops(&c.list, most), chart_case(&c.chart, most))
+}
+
+fn adding_case(c: &AddingCase, most: usize) -> String {
+    let sample = |s: &(u64, u64)| format!("{} of {}", s.0, size(c.record.attribute, s.1));
+    let samples = listed("samples", &c.samples, most, sample);
+    format!("{}, slices of {} and {}, {samples}", record(&c.record), c.counts, c.sizes)
+}
+
+fn attributes_case(c: &AttributesCase, most: usize) -> String {
+    let counts = listed("counts", &c.counts, most, u64::to_string);
+    let sizes = listed("sizes", &c.sizes, most, |&s| size(c.record.attribute, s));
+    format!("{}, {counts}, {sizes}, rooms {:?}", record(&c.record), c.rooms)
+}
+
+fn record(r: &Record) -> String {
+    let name = match r.attribute {
+        Attribute::P => "P",
+        Attribute::U => "U",
+    };
+    let centre =
+        r.centre.map_or("computed".to_string(), |bits| format!("{:?} ({bits:016x})", f64::from_bits(bits)));
+    format!("{name}, centre {centre}, count {}", r.count)
+}
+
+fn size(attribute: Attribute, size: u64) -> String {
+    match attribute {
+        Attribute::P => size.to_string(),
+        Attribute::U => format!("{:?}", f64::from_bits(size)),
+    }
 }
 
 fn flow_file(bytes: &[u8], most: usize) -> String {

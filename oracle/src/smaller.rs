@@ -2,7 +2,7 @@
 //! stops.
 //! The boldest come first, so that the first that still differs is the best to go on from.
 
-use crate::case::{Case, ChartCase, MarksCase, StoppedChart, StoppedMarks};
+use crate::case::{AddingCase, AttributesCase, Case, ChartCase, MarksCase, StoppedChart, StoppedMarks};
 use crate::report;
 use std::ops::Range;
 
@@ -29,6 +29,8 @@ pub fn of(case: &Case) -> Vec<Case> {
                 of_chart(&c.chart).into_iter().map(|(dropped, chart)| with(moved(&c.list, dropped), chart));
             easier.chain(fewer).map(Case::StoppedChart).collect()
         }
+        Case::Adding(c) => of_adding(c).into_iter().map(Case::Adding).collect(),
+        Case::Attributes(c) => of_attributes(c).into_iter().map(Case::Attributes).collect(),
         Case::Flow(bytes) => smaller_flows(bytes),
     }
 }
@@ -51,6 +53,26 @@ fn of_chart(c: &ChartCase) -> Vec<(usize, ChartCase)> {
     });
     let easier = smaller_sets(c.set).into_iter().map(|set| (0, ChartCase { set, ..c.clone() }));
     fewer.chain(easier).collect()
+}
+
+fn of_adding(c: &AddingCase) -> Vec<AddingCase> {
+    let fewer = |kept: Range<usize>| AddingCase { samples: c.samples[kept].to_vec(), ..c.clone() };
+    parts(c.samples.len()).into_iter().map(fewer).collect()
+}
+
+/// A record that counts all of its samples counts all that are left.
+fn of_attributes(c: &AttributesCase) -> Vec<AttributesCase> {
+    let held = c.counts.len().min(c.sizes.len());
+    let fewer = |kept: Range<usize>| {
+        let mut smaller = c.clone();
+        smaller.counts = c.counts[kept.clone()].to_vec();
+        smaller.sizes = c.sizes[kept.clone()].to_vec();
+        if c.record.count == held as u64 {
+            smaller.record.count = kept.len() as u64;
+        }
+        smaller
+    };
+    parts(held).into_iter().map(fewer).collect()
 }
 
 fn fewer_stops(stops: &[u64]) -> Vec<Vec<u64>> {

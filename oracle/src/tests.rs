@@ -1,8 +1,11 @@
-//! 01's worked examples through the published Rust, 02's stops, and the reader of lists.
+//! 01's worked examples through the published Rust, 02's stops and attribute charts, and the reader of lists.
 
-use crate::case::{Answer, Case, ChartCase, Evaluation, Limits, MarksCase, StoppedChart, StoppedMarks};
+use crate::case::{
+    AddingCase, Answer, Attribute, AttributesCase, Case, ChartCase, Evaluation, Limits, MarksCase, Record,
+    StoppedChart, StoppedMarks,
+};
 use crate::cases::{self, Part};
-use crate::{by_01, check, format, judge, report, smaller, stops};
+use crate::{attributes, by_01, check, format, judge, report, smaller, stops};
 use u_analytics::spc::rules::RuleSet;
 use u_analytics::spc::variables::{IndividualMRChart, XBarRChart, XBarSChart};
 
@@ -327,6 +330,133 @@ fn are_among(marks: &[u16], all: &[u16]) -> bool {
     marks.len() == all.len() && marks.iter().zip(all).all(|(m, a)| m & !a == 0)
 }
 
+// ---- attribute charts ------------------------------------------------------
+
+fn attribute_record(attribute: Attribute, centre: Option<f64>, count: u64) -> Record {
+    Record { attribute, centre: centre.map(f64::to_bits), count }
+}
+
+/// Evaluating's number, the centre, and the six slices, each one entry longer than there are samples.
+fn plotted(attribute: Attribute, centre: Option<f64>, samples: &[(u64, u64)]) -> (u64, f64, Vec<Vec<u64>>) {
+    let n = samples.len();
+    let answer = attributes::evaluated(&AttributesCase {
+        record: attribute_record(attribute, centre, n as u64),
+        counts: samples.iter().map(|s| s.0).collect(),
+        sizes: samples.iter().map(|s| s.1).collect(),
+        rooms: [n + 1; 6],
+    });
+    let slices = answer[3..].chunks(n + 1).map(|slice| slice.to_vec()).collect();
+    (answer[1], f64::from_bits(answer[2]), slices)
+}
+
+#[test]
+fn a_point_on_a_limit_is_in_control() {
+    let (number, centre, slices) = plotted(Attribute::P, Some(0.5), &[(27, 36), (28, 36), (9, 36), (8, 36)]);
+    assert_eq!((number, centre), (0, 0.5));
+    assert_eq!(slices[1], [0.75f64.to_bits(); 4].into_iter().chain([1]).collect::<Vec<_>>());
+    assert_eq!(slices[2], [0.25f64.to_bits(); 4].into_iter().chain([1]).collect::<Vec<_>>());
+    assert_eq!(slices[3], [0, 1, 0, 1, 1]);
+    assert_eq!(slices[4][0], 3.0f64.to_bits());
+}
+
+#[test]
+fn without_a_sigma_there_is_no_z() {
+    let (number, centre, slices) = plotted(Attribute::P, None, &[(0, 10), (0, 5)]);
+    assert_eq!((number, centre.to_bits()), (0, 0));
+    assert_eq!(slices[4..], [vec![0, 0, 1], vec![0, 0, 1]]);
+}
+
+#[test]
+fn an_infinite_sum_of_units_is_no_refusal_and_an_infinite_value_is() {
+    let huge = f64::MAX.to_bits();
+    let (number, centre, slices) = plotted(Attribute::U, None, &[(3, huge), (2, huge)]);
+    assert_eq!((number, centre.to_bits()), (0, 0));
+    assert_eq!(slices[3], [1, 1, 1]);
+    let (number, centre, slices) = plotted(Attribute::U, None, &[(1, 1), (0, 1.0f64.to_bits())]);
+    assert_eq!((number, centre), (7, 0.0));
+    assert!(slices.iter().all(|slice| slice == &[0, 0, 0]));
+}
+
+/// The numbers of adding these samples one after another to a record, beside slices of two lengths.
+fn added(record: Record, counts: usize, sizes: usize, samples: &[(u64, u64)]) -> Vec<u64> {
+    let case = AddingCase { record, counts, sizes, samples: samples.to_vec() };
+    attributes::added(&case)[1..=samples.len()].to_vec()
+}
+
+#[test]
+fn adding_refuses_in_02s_order() {
+    let over = 1 << 32;
+    let bad = [(over, 0), (1, 0), (6, 5), (3, 100)];
+    let of_p = |centre, count, room| added(attribute_record(Attribute::P, centre, count), room, room, &bad);
+    assert_eq!(of_p(None, 2, 5), [16, 17, 18, 0]);
+    assert_eq!(of_p(None, 2, 2), [16, 17, 18, 6]);
+    assert_eq!(of_p(None, 4096, 4096), [16, 17, 18, 5]);
+    assert_eq!(of_p(None, 4097, 4100), [14; 4]);
+    assert_eq!(of_p(None, 3, 2), [14; 4]);
+    assert_eq!(of_p(Some(1.0), 2, 5), [14; 4]);
+    let nan = f64::NAN.to_bits();
+    let of_u = |count, room| {
+        added(attribute_record(Attribute::U, None, count), room, room, &[(over, nan), (1, nan), (1, 1)])
+    };
+    assert_eq!(of_u(0, 1), [16, 19, 0]);
+    assert_eq!(of_u(0, 0), [16, 19, 6]);
+    assert_eq!(of_u(4096, 4096), [16, 19, 5]);
+}
+
+#[test]
+fn evaluating_refuses_in_02s_order() {
+    let least = 1;
+    let number = |centre: Option<f64>, count: u64, units: u64, room: usize| {
+        let record = attribute_record(Attribute::U, centre, count);
+        attributes::evaluated(&AttributesCase {
+            record,
+            counts: vec![1],
+            sizes: vec![units],
+            rooms: [room; 6],
+        })[1]
+    };
+    assert_eq!(number(None, 1, 1.0f64.to_bits(), 1), 0);
+    assert_eq!(number(None, 1, least, 1), 7);
+    assert_eq!(number(None, 1, least, 0), 6);
+    assert_eq!(number(None, 0, least, 0), 8);
+    assert_eq!(number(Some(-1.0), 0, least, 0), 14);
+    assert_eq!(number(Some(-1.0), 1, least, 0), 14);
+    assert_eq!(number(None, 2, least, 0), 14);
+    assert_eq!(number(None, 1, 0, 0), 14);
+}
+
+/// Every number of each call stands in the stored list, of P and of U.
+#[test]
+fn the_stored_attribute_cases_have_every_refusal() {
+    let mut seen = std::collections::BTreeSet::new();
+    for case in cases::list(Part::Attributes) {
+        match &case {
+            Case::Adding(c) => {
+                let numbers = attributes::added(c);
+                let per_unit = matches!(c.record.attribute, Attribute::U);
+                seen.insert((per_unit, "making", numbers[0]));
+                seen.extend(numbers[1..=c.samples.len()].iter().map(|&n| (per_unit, "adding", n)));
+            }
+            Case::Attributes(c) => {
+                let numbers = attributes::evaluated(c);
+                let per_unit = matches!(c.record.attribute, Attribute::U);
+                seen.insert((per_unit, "evaluating", numbers[1]));
+            }
+            _ => panic!("an attribute case was asked for"),
+        }
+    }
+    let expected = |per_unit: bool, call: &'static str, numbers: &[u64]| {
+        numbers.iter().map(|&n| (per_unit, call, n)).collect::<Vec<_>>()
+    };
+    let mut all = expected(false, "adding", &[0, 5, 6, 14, 16, 17, 18]);
+    all.extend(expected(true, "adding", &[0, 5, 6, 14, 16, 19]));
+    // P never reaches 7
+    all.extend(expected(false, "evaluating", &[0, 6, 8, 14]));
+    all.extend(expected(true, "evaluating", &[0, 6, 7, 8, 14]));
+    all.extend([false, true].into_iter().flat_map(|u| expected(u, "making", &[0, 20])));
+    assert_eq!(seen, all.into_iter().collect());
+}
+
 // ---- lists -----------------------------------------------------------------
 
 fn bytes_of(cases: Vec<Case>) -> Vec<u8> {
@@ -359,7 +489,7 @@ fn the_example_of_format_md() {
 
 #[test]
 fn a_list_reads_back_as_it_was_written() {
-    for part in [Part::Marks, Part::Charts] {
+    for part in [Part::Marks, Part::Charts, Part::Attributes] {
         let bytes = bytes_of(cases::fresh(part, 50, 3));
         let read = format::read(&bytes).expect("a list");
         assert_eq!(format::write(&read).remove(0), bytes);
@@ -397,7 +527,7 @@ fn a_number_out_of_place_is_refused() {
     };
     assert_eq!(changed(0, 2), (0, "format number is 2, not 1 to 1".into()));
     assert_eq!(changed(1, 2), (1, "2 cases are stated, 1 stand there".into()));
-    assert_eq!(changed(2, 6), (2, "tag is 6, not 0 to 5".into()));
+    assert_eq!(changed(2, 10), (2, "tag is 10, not 0 to 9".into()));
     let more = [&whole[..], &[0, 0]].concat();
     assert_eq!(fault_of(&more), (whole.len(), "2 bytes are left over".into()));
     assert_eq!(fault_of(&[1, 1, 2, 4]), (3, "kind is 4, not 1 to 3".into()));
@@ -417,6 +547,11 @@ fn a_number_out_of_place_is_refused() {
         (10, "answer is 15, not one of [0, 7, 8]".into())
     );
     assert_eq!(fault_of(&[1, 1, 3, 2, 0]), (3, "the bytes end inside flow file".into()));
+    assert_eq!(fault_of(&[1, 1, 6, 2]), (3, "given or not is 2, not 0 to 1".into()));
+    assert_eq!(
+        fault_of(&[1, 1, 9, 1, 5, 0, 0x85, 0x20]),
+        (6, "length of a slice is 4101, not 0 to 4100".into())
+    );
 }
 
 #[test]
@@ -445,9 +580,11 @@ fn smaller_cases_are_smaller() {
         Case::Chart(c) => (c.count(), 0, c.set.count_ones()),
         Case::StoppedMarks(c) => (c.marks.values.len(), c.stops.len(), c.marks.set.count_ones()),
         Case::StoppedChart(c) => (c.chart.count(), c.list.len(), c.chart.set.count_ones()),
+        Case::Adding(c) => (c.samples.len(), 0, 0),
+        Case::Attributes(c) => (c.counts.len() + c.sizes.len(), 0, 0),
         Case::Flow(bytes) => (bytes.len(), 0, tests_of(bytes)),
     };
-    for part in [Part::Marks, Part::Charts, Part::Reports] {
+    for part in [Part::Marks, Part::Charts, Part::Attributes, Part::Reports] {
         for case in cases::fresh(part, 50, 1) {
             assert!(smaller::of(&case).iter().all(|s| size(s) < size(&case)));
         }

@@ -1,5 +1,6 @@
 //! The cases: a fixed list for each part, and fresh ones from a seed.
 
+mod attributes;
 mod charts;
 mod edges;
 mod flows;
@@ -19,6 +20,7 @@ const LIST_SEED: u64 = 20_261_102;
 pub enum Part {
     Marks,
     Charts,
+    Attributes,
     Reports,
 }
 
@@ -27,6 +29,7 @@ impl Part {
         match name {
             "marks" => Some(Part::Marks),
             "charts" => Some(Part::Charts),
+            "attributes" => Some(Part::Attributes),
             "reports" => Some(Part::Reports),
             _ => None,
         }
@@ -47,6 +50,7 @@ pub fn list(part: Part) -> Vec<Case> {
             let stopped = stops::charts_list(&mut random).into_iter().map(Case::StoppedChart);
             plain.into_iter().chain(stopped).collect()
         }
+        Part::Attributes => attributes::list(&mut random),
         Part::Reports => reports::list(&mut random).into_iter().map(Case::Flow).collect(),
     }
 }
@@ -59,6 +63,7 @@ pub fn fresh(part: Part, count: usize, seed: u64) -> Vec<Case> {
         (Part::Marks, _) => Case::StoppedMarks(stops::any_marks(&mut random)),
         (Part::Charts, 0) => Case::Chart(charts::any(&mut random)),
         (Part::Charts, _) => Case::StoppedChart(stops::any_chart(&mut random)),
+        (Part::Attributes, _) => attributes::any(&mut random),
         (Part::Reports, _) => Case::Flow(reports::any(&mut random)),
     };
     (0..count).map(&mut one).collect()
