@@ -47,6 +47,8 @@ pub enum Item {
     Size,
     Set,
     Limit,
+    Centre,
+    Room,
     Count,
     Samples,
     Value,

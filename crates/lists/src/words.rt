@@ -35,6 +35,8 @@ fn put_item(item: Item) {
         Item::Size => put(b"size"),
         Item::Set => put(b"set"),
         Item::Limit => put(b"limit"),
+        Item::Centre => put(b"centre"),
+        Item::Room => put(b"length of a slice"),
         Item::Count => put(b"number of values"),
         Item::Samples => put(b"number of samples"),
         Item::Value => put(b"value"),
