@@ -5,7 +5,7 @@
 
 # Whether a file is there and nothing that it is made of has changed since.
 up_to_date() { # FILE
-    [ -f "$1" ] && [ -z "$(find crates crates.txt bench/calls.rattle -type f -newer "$1")" ]
+    [ -f "$1" ] && [ -z "$(find crates crates.txt bench/calls.rattle bench/roots.proof -type f -newer "$1")" ]
 }
 
 # The proved library, where it is not to be had elsewhere.

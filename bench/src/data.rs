@@ -27,6 +27,11 @@ impl Random {
     fn bell(&mut self) -> f64 {
         (0..12).map(|_| self.unit()).sum::<f64>() - 6.0
     }
+
+    /// How many of so many trials come out, at a chance.
+    fn hits(&mut self, trials: u64, chance: f64) -> u64 {
+        (0..trials).filter(|_| self.unit() < chance).count() as u64
+    }
 }
 
 /// Bell-shaped about the centre, with the deviation that the limits are made for.
@@ -63,6 +68,33 @@ pub fn positive() -> Vec<f64> {
     let mut random = Random(3);
     let any = std::iter::repeat_with(|| f64::from_bits(random.bits() >> 1));
     any.filter(|x| x.is_finite()).take(POINTS).collect()
+}
+
+/// The samples of an attribute chart: how many were damaged, and of how many parcels or units.
+pub struct Samples {
+    pub counts: Vec<u64>,
+    pub sizes: Sizes,
+}
+
+pub enum Sizes {
+    Parcels(Vec<u64>),
+    Units(Vec<f64>),
+}
+
+/// From 200 to 400 parcels inspected, of which 3 in 100 are damaged.
+pub fn parcels() -> Samples {
+    let mut random = Random(5);
+    let sizes: Vec<u64> = (0..POINTS).map(|_| 200 + random.bits() % 201).collect();
+    let counts = sizes.iter().map(|&n| random.hits(n, 0.03)).collect();
+    Samples { counts, sizes: Sizes::Parcels(sizes) }
+}
+
+/// From 0.5 to 3 units, with 2.3 damaged for each: about 4.
+pub fn units() -> Samples {
+    let mut random = Random(6);
+    let sizes: Vec<f64> = (0..POINTS).map(|_| 0.5 + 2.5 * random.unit()).collect();
+    let counts = sizes.iter().map(|n| random.hits(1000, 0.0023 * n)).collect();
+    Samples { counts, sizes: Sizes::Units(sizes) }
 }
 
 /// Marks as bytes, low byte first.

@@ -8,8 +8,8 @@ mod rust;
 mod stops;
 mod time;
 
-use data::{LIMITS, POINTS};
-use time::{keep, medians, opaque};
+use data::{Samples, Sizes, LIMITS, POINTS};
+use time::{keep, lasting, medians, medians_of_single, opaque};
 
 const SHEWHART: u16 = 1;
 const NELSON: u16 = 255;
@@ -33,6 +33,7 @@ fn main() {
     roots(turns);
     modes(turns);
     evaluating(turns);
+    attribute_charts(turns);
 }
 
 /// What is marked: the lines of both tables of marking.
@@ -331,5 +332,87 @@ fn evaluating(turns: usize) {
         )
         .map(|t| t / values.len() as f64);
         println!("{name:<36}{mine:>8.2}{theirs:>16.2}{:>8.2}", mine / theirs);
+    }
+}
+
+/// What the Rust works out at the last sample of a chart, and what either takes less the roots in it.
+fn attribute_charts(turns: usize) {
+    println!();
+    println!(
+        "{:<36}{:>8}{:>16}{:>8}{:>10}{:>16}{:>10}{:>12}{:>8}",
+        "attribute charts, ns a sample",
+        "ours",
+        "Rust",
+        "ratio",
+        "our root",
+        "the machine's",
+        "left",
+        "left, Rust",
+        "ratio"
+    );
+    // Once a large block was given back, the C library keeps what is given back later. Where it does not, the
+    // Rust gets its points' room anew from the system at each sample, and takes twice as long.
+    keep(Vec::<u8>::with_capacity(16 << 20));
+    for (name, samples, centre) in [
+        ("P, computed centre", data::parcels(), None),
+        ("P, given centre", data::parcels(), Some(0.03)),
+        ("U, computed centre", data::units(), None),
+        ("U, given centre", data::units(), Some(2.3)),
+    ] {
+        let mut columns = ours::Columns::new(POINTS);
+        let cl = columns.evaluate(centre, &samples);
+        let chart = rust::Attributes::filled(centre, &samples, POINTS);
+        assert_eq!(chart.points().len(), POINTS);
+        for (at, point) in chart.points().iter().enumerate() {
+            let z = columns.has_z[at].then_some(columns.z[at].to_bits());
+            let mine = [cl, columns.values[at], columns.ucl[at], columns.lcl[at]].map(f64::to_bits);
+            let theirs = [point.cl, point.value, point.ucl, point.lcl].map(f64::to_bits);
+            assert_eq!((mine, columns.out[at], z), (theirs, point.out_of_control, point.z.map(f64::to_bits)));
+        }
+        let variances = variances(cl, &samples);
+        let (mut numbers, mut again) = (variances.clone(), variances.clone());
+        ours::roots(&mut numbers);
+        again.iter_mut().for_each(|x| *x = x.sqrt());
+        assert_eq!(numbers, again, "roots differ: {name}");
+
+        let [mine, theirs, root, machines] = medians_of_single(
+            turns,
+            [
+                // Like the Rust's chart, which was worked out for one sample less, ours is not the first time.
+                &mut || {
+                    keep(columns.evaluate(centre, opaque(&samples)));
+                    lasting(|| keep(columns.evaluate(centre, opaque(&samples))))
+                },
+                &mut || {
+                    let mut chart = rust::Attributes::filled(centre, &samples, POINTS - 1);
+                    let time = lasting(|| chart.add(opaque(&samples), POINTS - 1));
+                    keep(chart);
+                    time
+                },
+                &mut || {
+                    numbers.copy_from_slice(&variances);
+                    lasting(|| ours::roots(opaque(&mut numbers)))
+                },
+                &mut || {
+                    again.copy_from_slice(&variances);
+                    lasting(|| opaque(&mut again).iter_mut().for_each(|x| *x = x.sqrt()))
+                },
+            ],
+        )
+        .map(|t| t / POINTS as f64);
+        let (left, rusts) = (mine - root, theirs - machines);
+        println!(
+            "{name:<36}{mine:>8.2}{theirs:>16.2}{:>8.2}{root:>10.2}{machines:>16.2}{left:>10.2}{rusts:>12.2}{:>8.2}",
+            mine / theirs,
+            left / rusts
+        );
+    }
+}
+
+/// What both take the roots of, about a centre.
+fn variances(cl: f64, samples: &Samples) -> Vec<f64> {
+    match &samples.sizes {
+        Sizes::Parcels(sizes) => sizes.iter().map(|&n| cl * (1.0 - cl) / n as f64).collect(),
+        Sizes::Units(sizes) => sizes.iter().map(|n| cl / n).collect(),
     }
 }

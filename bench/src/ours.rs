@@ -1,6 +1,6 @@
 //! Our calls, as the static libraries have them.
 
-use crate::data::LIMITS;
+use crate::data::{Samples, Sizes, LIMITS};
 
 extern "C" {
     fn dramulenz_mark(
@@ -74,6 +74,47 @@ extern "C" {
         dispersion_marks: *mut u16,
         dispersion_marks_len: usize,
     ) -> u64;
+    fn bench_p(
+        given: bool,
+        centre: f64,
+        counts: *const u64,
+        counts_len: usize,
+        sizes: *const u64,
+        sizes_len: usize,
+        values: *mut f64,
+        values_len: usize,
+        ucl: *mut f64,
+        ucl_len: usize,
+        lcl: *mut f64,
+        lcl_len: usize,
+        out: *mut bool,
+        out_len: usize,
+        z: *mut f64,
+        z_len: usize,
+        has_z: *mut bool,
+        has_z_len: usize,
+    ) -> f64;
+    fn bench_u(
+        given: bool,
+        centre: f64,
+        counts: *const u64,
+        counts_len: usize,
+        sizes: *const f64,
+        sizes_len: usize,
+        values: *mut f64,
+        values_len: usize,
+        ucl: *mut f64,
+        ucl_len: usize,
+        lcl: *mut f64,
+        lcl_len: usize,
+        out: *mut bool,
+        out_len: usize,
+        z: *mut f64,
+        z_len: usize,
+        has_z: *mut bool,
+        has_z_len: usize,
+    ) -> f64;
+    fn bench_roots(numbers: *mut f64, numbers_len: usize);
 }
 
 // SAFETY, of all of these: each pointer comes with the length of the slice that it is taken from, the library
@@ -176,6 +217,86 @@ impl Room {
                 dispersion_marks.as_mut_ptr(),
                 dispersion_marks.len(),
             )
+        }
+    }
+}
+
+/// In place: each number becomes its root.
+pub fn roots(numbers: &mut [f64]) {
+    unsafe { bench_roots(numbers.as_mut_ptr(), numbers.len()) }
+}
+
+/// The six slices that the evaluation of an attribute chart fills.
+pub struct Columns {
+    pub values: Vec<f64>,
+    pub ucl: Vec<f64>,
+    pub lcl: Vec<f64>,
+    pub out: Vec<bool>,
+    pub z: Vec<f64>,
+    pub has_z: Vec<bool>,
+}
+
+impl Columns {
+    pub fn new(samples: usize) -> Self {
+        let (numbers, answers) = (vec![0.0; samples], vec![false; samples]);
+        Columns {
+            values: numbers.clone(),
+            ucl: numbers.clone(),
+            lcl: numbers.clone(),
+            out: answers.clone(),
+            z: numbers,
+            has_z: answers,
+        }
+    }
+
+    /// The centre, or a NaN where it is refused.
+    pub fn evaluate(&mut self, centre: Option<f64>, samples: &Samples) -> f64 {
+        let counts = &samples.counts;
+        match &samples.sizes {
+            Sizes::Parcels(sizes) => unsafe {
+                bench_p(
+                    centre.is_some(),
+                    centre.unwrap_or(0.0),
+                    counts.as_ptr(),
+                    counts.len(),
+                    sizes.as_ptr(),
+                    sizes.len(),
+                    self.values.as_mut_ptr(),
+                    self.values.len(),
+                    self.ucl.as_mut_ptr(),
+                    self.ucl.len(),
+                    self.lcl.as_mut_ptr(),
+                    self.lcl.len(),
+                    self.out.as_mut_ptr(),
+                    self.out.len(),
+                    self.z.as_mut_ptr(),
+                    self.z.len(),
+                    self.has_z.as_mut_ptr(),
+                    self.has_z.len(),
+                )
+            },
+            Sizes::Units(sizes) => unsafe {
+                bench_u(
+                    centre.is_some(),
+                    centre.unwrap_or(0.0),
+                    counts.as_ptr(),
+                    counts.len(),
+                    sizes.as_ptr(),
+                    sizes.len(),
+                    self.values.as_mut_ptr(),
+                    self.values.len(),
+                    self.ucl.as_mut_ptr(),
+                    self.ucl.len(),
+                    self.lcl.as_mut_ptr(),
+                    self.lcl.len(),
+                    self.out.as_mut_ptr(),
+                    self.out.len(),
+                    self.z.as_mut_ptr(),
+                    self.z.len(),
+                    self.has_z.as_mut_ptr(),
+                    self.has_z.len(),
+                )
+            },
         }
     }
 }

@@ -1,6 +1,7 @@
 //! The Rust as published, asked for the same.
 
-use crate::data::LIMITS;
+use crate::data::{Samples, Sizes, LIMITS};
+use u_analytics::spc::attributes::{AttributeChartPoint, PChart, UChart};
 use u_analytics::spc::chart::{ChartPoint, ControlChart, ViolationType};
 use u_analytics::spc::rules::{RuleSet, RunRule};
 use u_analytics::spc::variables::{IndividualMRChart, XBarRChart, XBarSChart};
@@ -77,4 +78,41 @@ fn filled<C: ControlChart>(mut chart: C, size: usize, values: &[f64]) -> C {
         chart.add_sample(sample).expect("a finite sample of the chart's size");
     }
     chart
+}
+
+/// An attribute chart, to which samples are added one by one. At each the Rust works all points out afresh.
+pub enum Attributes {
+    Parcels(PChart),
+    Units(UChart),
+}
+
+impl Attributes {
+    /// Holds the first `count` samples.
+    pub fn filled(centre: Option<f64>, samples: &Samples, count: usize) -> Self {
+        let centred = "a centre that is allowed";
+        let mut chart = match (&samples.sizes, centre) {
+            (Sizes::Parcels(_), None) => Attributes::Parcels(PChart::new()),
+            (Sizes::Parcels(_), Some(p)) => Attributes::Parcels(PChart::with_center(p).expect(centred)),
+            (Sizes::Units(_), None) => Attributes::Units(UChart::new()),
+            (Sizes::Units(_), Some(u)) => Attributes::Units(UChart::with_center(u).expect(centred)),
+        };
+        (0..count).for_each(|at| chart.add(samples, at));
+        chart
+    }
+
+    pub fn add(&mut self, samples: &Samples, at: usize) {
+        let added = match (self, &samples.sizes) {
+            (Attributes::Parcels(c), Sizes::Parcels(sizes)) => c.add_sample(samples.counts[at], sizes[at]),
+            (Attributes::Units(c), Sizes::Units(sizes)) => c.add_sample(samples.counts[at], sizes[at]),
+            _ => unreachable!("samples of another chart"),
+        };
+        added.expect("a sample that is allowed");
+    }
+
+    pub fn points(&self) -> &[AttributeChartPoint] {
+        match self {
+            Attributes::Parcels(c) => c.points(),
+            Attributes::Units(c) => c.points(),
+        }
+    }
 }

@@ -24,10 +24,30 @@ pub fn keep<T>(value: T) {
 /// measured once, so that what slows the machine for a while slows all of them.
 pub fn medians<const N: usize>(turns: usize, mut contenders: [&mut dyn FnMut(); N]) -> [f64; N] {
     let repeats: Vec<u32> = contenders.iter_mut().map(|call| repeats_of(call)).collect();
+    by_turns(turns, |k| time(repeats[k], contenders[k]).as_nanos() as f64 / f64::from(repeats[k]))
+}
+
+/// The same of contenders that are to be made ready for each call, and say themselves how long the call alone
+/// took, by `lasting`: for calls that take long enough to be told by the clock once.
+pub fn medians_of_single<const N: usize>(
+    turns: usize,
+    mut contenders: [&mut dyn FnMut() -> Duration; N],
+) -> [f64; N] {
+    by_turns(turns, |k| contenders[k]().as_nanos() as f64)
+}
+
+/// How long a call takes.
+pub fn lasting(call: impl FnOnce()) -> Duration {
+    let begun = Instant::now();
+    call();
+    begun.elapsed()
+}
+
+fn by_turns<const N: usize>(turns: usize, mut time_of: impl FnMut(usize) -> f64) -> [f64; N] {
     let mut times: [Vec<f64>; N] = [(); N].map(|()| Vec::new());
     for _ in 0..turns {
-        for (k, call) in contenders.iter_mut().enumerate() {
-            times[k].push(time(repeats[k], call).as_nanos() as f64 / f64::from(repeats[k]));
+        for (k, of_one) in times.iter_mut().enumerate() {
+            of_one.push(time_of(k));
         }
     }
     times.map(|mut of_one| {
