@@ -12,12 +12,12 @@ use Rattle.floats.specs.Finite.{finite, allFinite}
 use Rattle.floats.specs.Values.{whole, decimal}
 use Rattle.root.specs.Root.{rootOf, rootAt, scaled, floorRoot}
 use Rattle.arith.specs.Arith.{orNan}
-use Rattle.points.specs.Points.{sigmaOf, upperOf, lowerOf, uppers, lowers, outs, zs, hasZs, sound}
+use Rattle.points.specs.Points.{upperOf, lowerOf, uppers, lowers, outs, zs, hasZs, sound}
 use Rattle.attributes.specs.declared.Centre.the-variants.{Computed, Given}
 use Rattle.attributes.specs.declared.PChart.{PChart}
 use Rattle.attributes.specs.declared.UChart.{UChart}
 use Rattle.attributes.specs.Records.{centreWrong, recordWrong, withCentreP, newP, addP}
-use Rattle.attributes.specs.Evaluating.{storedRightP, storedRightU, wrongP, wrongU, totalOf, centreOf, centreP, centreU, plotP, plotU, evaluateP, evaluateU}
+use Rattle.attributes.specs.Evaluating.{sigmaOf, storedRightP, storedRightU, wrongP, wrongU, totalOf, centreOf, centreP, centreU, plotP, plotU, evaluateP, evaluateU}
 
 -- ---- U, the centre 16, one unit each: sigma is 4, the limits are 28 and 4. A point on a limit is in control.
 

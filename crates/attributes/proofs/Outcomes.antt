@@ -17,7 +17,7 @@ use Rattle.laws.proofs.Lists.{length-tabulate, getD-tabulate, same-tabulate}
 use Rattle.laws.proofs.LentAfter.{slice-kept, slice-same, front-over, slice-over}
 use Rattle.laws.proofs.Refusals.{passed, refused, none-applies, first-append, first-else, first-such}
 use Rattle.floats.specs.Values.{plusZero}
-use Rattle.points.specs.Points.{sigmaOf, Plot, sound, uppers, lowers, outs, zs, hasZs}
+use Rattle.points.specs.Points.{Plot, sound, uppers, lowers, outs, zs, hasZs}
 use Rattle.points.specs.Plotting.{anyShorter, plotFrom, plotNumber}
 use Rattle.points.specs.Steps.{settled}
 use Rattle.points.proofs.Filled.{column-length}
@@ -26,7 +26,7 @@ use Rattle.attributes.specs.declared.Refusal.{Refusal}
 use Rattle.attributes.specs.declared.checks.Tested.{Tested}
 use Rattle.attributes.specs.declared.checks.Tested.the-variants as testing
 use Rattle.attributes.specs.Records.{number}
-use Rattle.attributes.specs.Evaluating.{answerFor, valuesOf, sigmasOf, plotOf, refusals}
+use Rattle.attributes.specs.Evaluating.{sigmaOf, answerFor, valuesOf, sigmasOf, plotOf, refusals}
 use Rattle.attributes.specs.Steps.{tested, ahead, variancesOf, rootsOf}
 use Rattle.attributes.proofs.Answers.{number-some}
 

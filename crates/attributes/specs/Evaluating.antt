@@ -9,8 +9,9 @@ use Rattle.laws.specs.Bools.{every}
 use Rattle.laws.specs.Lists.{tabulate}
 use Rattle.laws.specs.Refusals.{firstOf}
 use Rattle.floats.specs.Values.{plusZero, whole, decimal}
-use Rattle.arith.specs.Arith.{sumOf}
-use Rattle.points.specs.Points.{sigmaOf, Plot, sound}
+use Rattle.root.specs.Root.{rootOf}
+use Rattle.arith.specs.Arith.{sumOf, orNan}
+use Rattle.points.specs.Points.{Plot, sound}
 use Rattle.attributes.specs.declared.Centre.{Centre}
 use Rattle.attributes.specs.declared.Centre.the-variants.{Computed, Given}
 use Rattle.attributes.specs.declared.PChart.{PChart}
@@ -65,6 +66,10 @@ centreU c counts sizes = centreOf (c .centre) (div binary64 (whole (totalOf (tak
 
 abbrev pub valuesOf : List ℕ → List Float → List Float
 valuesOf counts sizes = tabulate (λ i. div binary64 (whole (getD counts i 0)) (getD sizes i nan)) (length sizes)
+
+-- a sigma is the root of a variance; where there is no root it is a NaN, so that it is not finite (7)
+unfoldable pub sigmaOf : Float → Float
+sigmaOf variance = orNan (rootOf variance)
 
 abbrev pub sigmasOf : Float → List Float → List Float
 sigmasOf variance sizes = tabulate (λ i. sigmaOf (div binary64 variance (getD sizes i nan))) (length sizes)

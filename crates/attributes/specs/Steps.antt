@@ -6,10 +6,10 @@ use lib.Dec.{eqb}
 use lib.Ieee.{Float, nan, binary64, div}
 use lib.ListN.{length, getD}
 use Rattle.laws.specs.Lists.{tabulate}
-use Rattle.points.specs.Points.{sigmaOf}
 use Rattle.attributes.specs.declared.checks.Tested.{Tested}
 use Rattle.attributes.specs.declared.checks.Tested.the-variants as testing
 use Rattle.attributes.specs.Records.{number, full}
+use Rattle.attributes.specs.Evaluating.{sigmaOf}
 
 -- the number of what tests found
 abbrev pub tested : Tested → ℕ

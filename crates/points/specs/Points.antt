@@ -8,14 +8,8 @@ use lib.ListN.{length, getD}
 use Rattle.laws.specs.Lists.{tabulate}
 use Rattle.floats.specs.Finite.{finite, allFinite}
 use Rattle.floats.specs.Values.{plusZero, decimal}
-use Rattle.root.specs.Root.{rootOf}
-use Rattle.arith.specs.Arith.{orNan}
 
 -- ---- one point, from its value, the centre and its own sigma
-
--- a sigma is the root of a variance; where there is no root it is a NaN, so that it is not finite (7)
-unfoldable pub sigmaOf : Float → Float
-sigmaOf variance = orNan (rootOf variance)
 
 -- "cl + 3.0 * sigma"
 unfoldable pub upperOf : Float → Float → Float

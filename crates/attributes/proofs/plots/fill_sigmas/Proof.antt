@@ -9,7 +9,7 @@ use Rattle.laws.specs.Front.{atFront}
 use Rattle.laws.proofs.Lists.{tabulate-front}
 use Rattle.laws.proofs.Filling.{Tabling, tabling-starts, tabling-length, tabling-room, tabling-goes-on, tabling-ends, in-place}
 use Rattle.arith.specs.Arith.{orNan}
-use Rattle.points.specs.Points.{sigmaOf}
+use Rattle.attributes.specs.Evaluating.{sigmaOf}
 use borrow.Author.Needs.{needs}
 use Rattle.attributes.proofs.plots.fill_sigmas.Statement.{statement}
 use Rattle.attributes.proofs.plots.fill_sigmas.Tie as tie
