@@ -1,7 +1,7 @@
 -- Samples on their limits, a missing z, a 7 and an infinite sum of units, computed. Assumes nothing.
 use mathlib.Core.Path.{_≡_, refl}
 use mathlib.Core.Bool.{true, false, _&&_}
-use mathlib.Core.List.{List, [], _∷_}
+use mathlib.Core.List.{[], _∷_}
 use Prim.Native.Nat.{ℕ}
 use lib.Dec.{eqb}
 use lib.Ieee.{Float, binary64, ofBits, toBits, ofInt, round, add, sub, mul, div, lt, odd, size}
@@ -12,12 +12,12 @@ use Rattle.floats.specs.Finite.{finite, allFinite}
 use Rattle.floats.specs.Values.{whole, decimal}
 use Rattle.root.specs.Root.{rootOf, rootAt, scaled, floorRoot}
 use Rattle.arith.specs.Arith.{orNan}
-use Rattle.points.specs.Points.{upperOf, lowerOf, uppers, lowers, outs, zs, hasZs, sound}
+use Rattle.points.specs.Points.{upperOf, lowerOf, outs, hasZs, sound}
 use Rattle.attributes.specs.declared.Centre.the-variants.{Computed, Given}
 use Rattle.attributes.specs.declared.PChart.{PChart}
 use Rattle.attributes.specs.declared.UChart.{UChart}
 use Rattle.attributes.specs.Records.{centreWrong, recordWrong, withCentreP, newP, addP}
-use Rattle.attributes.specs.Evaluating.{sigmaOf, storedRightP, storedRightU, wrongP, wrongU, totalOf, centreOf, centreP, centreU, plotP, plotU, evaluateP, evaluateU}
+use Rattle.attributes.specs.Evaluating.{sigmaOf, storedRightU, wrongU, totalOf, centreOf, centreP, centreU, plotP, plotU, evaluateU}
 
 -- ---- U, the centre 16, one unit each: sigma is 4, the limits are 28 and 4. A point on a limit is in control.
 

@@ -1,20 +1,11 @@
--- `rates::allowed` meets its contract. Assumes nothing.
-use mathlib.Core.Path.{ap}
-use mathlib.Core.Bool.{Bool, _&&_}
-use lib.Ieee.{lt}
-use Rattle.floats.specs.Values.{plusZero}
+-- `rates::allowed` meets its contract: a positive unit is finite exactly if it is at most the largest f64. Assumes nothing.
+use Rattle.floats.proofs.Largest.{at-most-largest}
 use borrow.Author.Needs.{needs}
 use Rattle.attributes.proofs.rates.allowed.Statement.{statement}
 use Rattle.attributes.proofs.rates.allowed.Tie as tie
 
-is-finite-requires : tie.Need-is-finite-requires
-is-finite-requires c κs = search needs
-
 returns : tie.Need-returns
-returns c =
-    let is-finite = c .is-finite in
-    let args = c .before .args in
-    ap (λ (b : Bool). b && lt plusZero (args .u)) (is-finite .ensures)
+returns c = at-most-largest (c .args .u) (search needs)
 
 pub allowed-spec : {M : Type 1} → statement M
-allowed-spec = tie.close (tie.spec is-finite-requires returns)
+allowed-spec = tie.close (tie.spec returns)
