@@ -6,7 +6,8 @@ use Prim.Native.Nat.{ℕ, zero, suc, _+_, _-_, _≤_, _<_}
 use native.Mathlib.Nat.{add-zero, zero-add, add-suc, suc-add, sub-zero, le-of-suc-le-suc}
 use native.Mathlib.Numerals.{add-one}
 use native.Mathlib.Omega.{arith}
-use lib.Dec.{eqb}
+use borrow.Author.Tests.{ltb-true, ltb-false}
+use lib.Dec.{ltb, eqb}
 use Rattle.laws.specs.Bools.{every}
 use Rattle.laws.specs.Lists.{tabulateFrom, tabulate}
 use Rattle.laws.specs.Refusals.{firstOf}
@@ -53,6 +54,17 @@ pub every-at : (f : ℕ → Bool) (n : ℕ) → every (tabulate f n) ≡ true �
 every-at f n e k h = ap f (sym (zero-add k)) ∙ every-from f 0 n k e h
 
 -- ---- a sample's own tests as one
+
+-- where no more are damaged than inspected, the damaged are too many only if the inspected are
+pub inspected-alone : (most d n : ℕ) → ltb most n || eqb n 0 || ltb n d ≡ (ltb most d || ltb most n) || eqb n 0 || ltb n d
+inspected-alone most d n = by (ltb most d) (ltb most n) (eqb n 0) (ltb n d) (ltb-true most d) (ltb-false most n) (ltb-false n d)
+  where
+    by : (a b c e : Bool) → (a ≡ true → most < d) → (b ≡ false → n ≤ most) → (e ≡ false → d ≤ n) → b || c || e ≡ (a || b) || c || e
+    by false b c e f g h = refl
+    by true true c e f g h = refl
+    by true false true e f g h = refl
+    by true false false true f g h = refl
+    by true false false false f g h = absurd (omega (arith, f refl, g refl, h refl))
 
 pub none-of-3 : (a b c : Bool) → not (a || b || c) ≡ eqb (firstOf ((a, 16) ∷ (b, 17) ∷ (c, 18) ∷ []) 0) 0
 unfolding firstOf

@@ -57,8 +57,8 @@ pub fn sample(damaged: u64, inspected: u64) -> Tested
 fn sample_right(damaged: u64, inspected: u64) -> bool
     ensures { λ r. ⌜ r ≡ right (sampleP damaged inspected) ⌝ }
 {
-    let large = (MOST < damaged) | (MOST < inspected);
-    !(large | (inspected == 0) | (inspected < damaged))
+    // no more are damaged than inspected, so that only these can be too many
+    !((MOST < inspected) | (inspected == 0) | (inspected < damaged))
 }
 
 fn stored_right(count: usize, counts: &[u64], sizes: &[u64]) -> bool

@@ -12,8 +12,8 @@ use Rattle.laws.proofs.Bools.{both}
 use Rattle.laws.proofs.Lists.{length-tabulate, getD-tabulate, same-tabulate, tabulate-map}
 use Rattle.floats.specs.Finite.{finite, allFinite}
 use Rattle.floats.proofs.Infinite.{finite-sum, finite-product}
-use Rattle.points.specs.Points.{upperOf, lowerOf, beyond, hasZ, Point, pointAt, column, Plot, uppers, lowers, outs, hasZs, sound}
-use Rattle.points.specs.Steps.{plotBy, lowersBy, uppersBy, hasZsBy, outsBy}
+use Rattle.points.specs.Points.{upperOf, lowerOf, beyond, Point, pointAt, column, Plot, uppers, lowers, outs, sound}
+use Rattle.points.specs.Steps.{plotBy, lowersBy, uppersBy, outsBy}
 
 -- ---- finite upper limits are those of finite sigmas
 
@@ -33,9 +33,6 @@ implied true false false e h = refl
 -- ---- what the loops leave
 
 module _ (cl : Float) (vs ss : List Float) (n : length ss ≡ length vs) where
-  pub has-zs-are : hasZsBy ss ≡ hasZs (plotBy cl vs ss)
-  has-zs-are = ap (tabulate (λ i. hasZ (getD ss i nan))) n
-
   module _ {us ls : List Float} (u : us ≡ uppersBy cl ss) (l : ls ≡ lowersBy cl ss) where
     pub uppers-are : us ≡ uppers (plotBy cl vs ss)
     uppers-are = u ∙ ap (tabulate (λ i. upperOf cl (getD ss i nan))) n

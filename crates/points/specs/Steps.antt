@@ -22,11 +22,11 @@ lowersBy cl sigmas = tabulate (λ i. lowerOf cl (getD sigmas i nan)) (length sig
 abbrev pub uppersBy : Float → List Float → List Float
 uppersBy cl sigmas = tabulate (λ i. upperOf cl (getD sigmas i nan)) (length sigmas)
 
-abbrev pub hasZsBy : List Float → List Bool
-hasZsBy sigmas = tabulate (λ i. hasZ (getD sigmas i nan)) (length sigmas)
-
 abbrev pub zsBy : Float → List Float → List Float → List Float
 zsBy cl values sigmas = tabulate (λ i. zOf (getD values i nan) cl (getD sigmas i nan)) (length values)
+
+abbrev pub hasZsBy : List Float → List Float → List Bool
+hasZsBy values sigmas = tabulate (λ i. hasZ (getD sigmas i nan)) (length values)
 
 abbrev pub outsBy : List Float → List Float → List Float → List Bool
 outsBy values ucl lcl = tabulate (λ i. beyond (getD values i nan) (getD ucl i nan) (getD lcl i nan)) (length values)
