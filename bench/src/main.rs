@@ -9,7 +9,7 @@ mod stops;
 mod time;
 
 use data::{Samples, Sizes, LIMITS, POINTS};
-use time::{keep, lasting, medians, medians_of_single, opaque};
+use time::{keep, lasting, medians, opaque, quick_of_single};
 
 const SHEWHART: u16 = 1;
 const NELSON: u16 = 255;
@@ -375,8 +375,8 @@ fn attribute_charts(turns: usize) {
         again.iter_mut().for_each(|x| *x = x.sqrt());
         assert_eq!(numbers, again, "roots differ: {name}");
 
-        let [mine, theirs, root, machines] = medians_of_single(
-            turns,
+        let [mine, theirs, root, machines] = quick_of_single(
+            4 * turns,
             [
                 // Like the Rust's chart, which was worked out for one sample less, ours is not the first time.
                 &mut || {

@@ -1,4 +1,4 @@
-//! Measuring: contenders take turns, and of each the median is told.
+//! Measuring: contenders take turns, and of each the median is told, or what it takes in quick turns.
 
 use std::time::{Duration, Instant};
 
@@ -24,16 +24,17 @@ pub fn keep<T>(value: T) {
 /// measured once, so that what slows the machine for a while slows all of them.
 pub fn medians<const N: usize>(turns: usize, mut contenders: [&mut dyn FnMut(); N]) -> [f64; N] {
     let repeats: Vec<u32> = contenders.iter_mut().map(|call| repeats_of(call)).collect();
-    by_turns(turns, |k| time(repeats[k], contenders[k]).as_nanos() as f64 / f64::from(repeats[k]))
+    by_turns(turns, 2, |k| time(repeats[k], contenders[k]).as_nanos() as f64 / f64::from(repeats[k]))
 }
 
-/// The same of contenders that are to be made ready for each call, and say themselves how long the call alone
-/// took, by `lasting`: for calls that take long enough to be told by the clock once.
-pub fn medians_of_single<const N: usize>(
+/// The time that one call of each contender in twenty stays below. The contenders are made ready for each call, and
+/// say themselves how long the call alone took, by `lasting`: for calls that take long enough to be told by the clock
+/// once. Times that are taken from one another want the machine's best pace: medians may be of two paces.
+pub fn quick_of_single<const N: usize>(
     turns: usize,
     mut contenders: [&mut dyn FnMut() -> Duration; N],
 ) -> [f64; N] {
-    by_turns(turns, |k| contenders[k]().as_nanos() as f64)
+    by_turns(turns, 20, |k| contenders[k]().as_nanos() as f64)
 }
 
 /// How long a call takes.
@@ -43,7 +44,8 @@ pub fn lasting(call: impl FnOnce()) -> Duration {
     begun.elapsed()
 }
 
-fn by_turns<const N: usize>(turns: usize, mut time_of: impl FnMut(usize) -> f64) -> [f64; N] {
+/// The time that of each contender one turn in `share` stays below.
+fn by_turns<const N: usize>(turns: usize, share: usize, mut time_of: impl FnMut(usize) -> f64) -> [f64; N] {
     let mut times: [Vec<f64>; N] = [(); N].map(|()| Vec::new());
     for _ in 0..turns {
         for (k, of_one) in times.iter_mut().enumerate() {
@@ -52,7 +54,7 @@ fn by_turns<const N: usize>(turns: usize, mut time_of: impl FnMut(usize) -> f64)
     }
     times.map(|mut of_one| {
         of_one.sort_by(f64::total_cmp);
-        of_one[of_one.len() / 2]
+        of_one[of_one.len() / share]
     })
 }
 
