@@ -16,14 +16,11 @@ ghost use Rattle.attributes.specs.Records.{rateAllowed, centreWrong, rec
 ghost use Rattle.attributes.specs.Evaluating.{right, storedRightU, wrongU, centreU};
 ghost use Rattle.attributes.specs.Steps.{tested};
 
-// A positive f64 is finite exactly if it is at most this.
-const LARGEST: f64 = 1.7976931348623157e308;
-
 // Two comparisons, so that a loop can take several units at a time.
 pub fn allowed(u: f64) -> bool
     ensures { λ r. ⌜ r ≡ rateAllowed u ⌝ }
 {
-    (0.0 < u) & (u <= LARGEST)
+    (0.0 < u) & (u <= floats::LARGEST)
 }
 
 fn centre_wrong(centre: Centre) -> bool

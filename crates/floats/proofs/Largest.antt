@@ -1,14 +1,14 @@
--- A positive f64 is finite exactly if it is at most the largest one. Assumes nothing.
+-- An f64 is finite exactly if it lies between the largest one and its negative. Assumes nothing.
 use mathlib.Core.Path.{_≡_, refl, sym, ap, _∙_, subst}
-use mathlib.Core.Bool.{Bool, true, false, _&&_, _||_}
+use mathlib.Core.Bool.{Bool, true, false, _&&_, _||_, and-true}
 use Prim.Native.Nat.{ℕ, zero, suc, _+_, _-_, _*_, _%_, _^_, _≤_, _<_}
 use native.Mathlib.Nat.{mul-le-mul-left, mul-le-mul-right, le-trans, mul-assoc}
 use native.Mathlib.Omega.{arith}
 use borrow.Author.Tests.{leb-true, leb-false, ltb-false, eqb-false}
-use lib.Dec.{T, leb, ltb, eqb, ltb→lt}
+use lib.Dec.{T, leb, ltb, eqb, ltb→lt, lit<}
 use lib.IntN.{ℤ, pos, negsuc}
 use lib.Pow.{pow-add, pow-mono, pow-pos, shr-lt, shl-shr}
-use lib.Ieee.{Float, nan, inf, fin, binary64, fits, lt, eq, le, ofBits, up, down}
+use lib.Ieee.{Float, nan, inf, fin, binary64, fits, lt, eq, le, ofBits, up, down, neg}
 use lib.Ieee.Fits.{and-l, and-r}
 use Rattle.floats.specs.Finite.{finite}
 use Rattle.floats.specs.Values.{plusZero}
@@ -47,31 +47,63 @@ within p q m (negsuc k) few below =
 nothing : (e : ℤ) (n : ℕ) → 0 * up e * 1 ≤ n
 nothing e n = omega arith
 
--- ---- in comparisons
+-- the same of what the format holds
+magnitude : (s : Bool) (m : ℕ) (e : ℤ) → T (fits binary64 (fin s m e)) → m * up e * 1 ≤ (2 ^ 53 - 1) * 2 ^ 971 * down e
+unfolding fits
+magnitude s zero e t = nothing e _
+magnitude s (suc m) e t =
+    let held = held-parts (eqb (suc m % 2) 1) (ltb (suc m) (2 ^ 53)) (leb (down e) (2 ^ 1074)) (ltb (suc m * up e) (2 ^ 1024 * down e)) t in
+    within 53 971 (suc m) e (ltb→lt (suc m) (2 ^ 53) (held .0)) (ltb→lt (suc m * up e) (2 ^ 1024 * down e) (held .1))
+  where
+    -- of what the format asks of a number: its digits and its size
+    held-parts : (a b c d : Bool) → T (a && b && c && d) → T b × T d
+    held-parts a b c d t = (and-r a b (and-l (a && b) c (and-l (a && b && c) d t)), and-r (a && b && c) d t)
 
-not-above : (a b : ℕ) → a ≤ b → (ltb a b || (eqb a b && true)) ≡ true
-not-above a b h = by (ltb a b) (eqb a b) (ltb-false a b) (eqb-false a b)
+above-zero : (p q : ℕ) (e : ℤ) → 0 < p → 0 < p * 2 ^ q * down e
+above-zero p q (pos k) h = omega (arith, mul-le-mul-left p (pow-pos q), h)
+above-zero p q (negsuc k) h = omega (arith, mul-le-mul-left p (pow-pos q), mul-le-mul-left (p * 2 ^ q) (pow-pos (suc k)), h)
+
+-- ---- in comparisons: of numbers of one sign, and of two
+
+alike : (a b : ℕ) (same : Bool) → (same ≡ false → a ≡ b → ⊥) → a ≤ b → (ltb a b || (same && true)) ≡ true
+alike a b same differ h = by (ltb a b) same (ltb-false a b) differ
   where
     by : (p q : Bool) → (p ≡ false → b ≤ a) → (q ≡ false → a ≡ b → ⊥) → (p || (q && true)) ≡ true
     by true q f g = refl
     by false true f g = refl
     by false false f g = absurd (g refl (omega (arith, h, f refl)))
 
-both : (a b : Bool) → b ≡ true → a && b ≡ a
-both true b h = h
-both false b h = refl
+apart : (n : ℕ) (same : Bool) → 0 < n → (ltb 0 n || same) ≡ true
+apart n same h = by (ltb 0 n) (ltb-false 0 n)
+  where
+    by : (p : Bool) → (p ≡ false → n ≤ 0) → (p || same) ≡ true
+    by true f = refl
+    by false f = absurd (omega (arith, h, f refl))
 
--- of what the format asks of a number: its digits and its size
-held-parts : (a b c d : Bool) → T (a && b && c && d) → T b × T d
-held-parts a b c d t = (and-r a b (and-l (a && b) c (and-l (a && b && c) d t)), and-r (a && b && c) d t)
+sums : (a b : ℕ) → 0 < b → (0 < a + b) × (0 < b + a)
+sums a b h = (omega (arith, h), omega (arith, h))
+
+not-above : (s : Bool) (m : ℕ) (e : ℤ) → T (fits binary64 (fin s m e)) → le (fin s m e) largest ≡ true
+unfolding lt eq le ofBits
+not-above false m e t = alike _ _ _ (eqb-false _ _) (magnitude false m e t)
+not-above true m e t = apart _ _ (sums (m * up e * 1) _ (above-zero (2 ^ 53 - 1) 971 e (lit< tt)) .0)
+
+not-below : (s : Bool) (m : ℕ) (e : ℤ) → T (fits binary64 (fin s m e)) → le (neg largest) (fin s m e) ≡ true
+unfolding lt eq le neg ofBits
+not-below false m e t = apart _ _ (sums (m * up e * 1) _ (above-zero (2 ^ 53 - 1) 971 e (lit< tt)) .1)
+not-below true m e t = alike _ _ _ (λ h same. eqb-false _ _ h (sym same)) (magnitude true m e t)
+
+pub between-largest : (v : Float) → T (fits binary64 v) → le v largest && le (neg largest) v ≡ finite v
+unfolding lt eq le neg finite ofBits
+between-largest nan t = refl
+between-largest (inf true) t = refl
+between-largest (inf false) t = refl
+between-largest (fin s m e) t = rw (not-above s m e t) (not-below s m e t)
 
 pub at-most-largest : (u : Float) → T (fits binary64 u) → lt plusZero u && le u largest ≡ finite u && lt plusZero u
-unfolding lt eq le finite ofBits fits
+unfolding lt eq le finite ofBits
 at-most-largest nan t = refl
 at-most-largest (inf true) t = refl
 at-most-largest (inf false) t = refl
 at-most-largest (fin true m e) t = refl
-at-most-largest (fin false zero e) t = both _ _ (not-above _ _ (nothing e _))
-at-most-largest (fin false (suc m) e) t =
-    let held = held-parts (eqb (suc m % 2) 1) (ltb (suc m) (2 ^ 53)) (leb (down e) (2 ^ 1074)) (ltb (suc m * up e) (2 ^ 1024 * down e)) t in
-    both _ _ (not-above _ _ (within 53 971 (suc m) e (ltb→lt (suc m) (2 ^ 53) (held .0)) (ltb→lt (suc m * up e) (2 ^ 1024 * down e) (held .1))))
+at-most-largest (fin false m e) t = ap (λ (x : Bool). lt plusZero (fin false m e) && x) (not-above false m e t) ∙ and-true _

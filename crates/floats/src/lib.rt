@@ -3,6 +3,9 @@ ghost use mathlib.Core.Path.{_≡_};
 ghost use lib.Ieee.{binary64, ofBits};
 ghost use Rattle.floats.specs.Finite.{finite, allFinite};
 
+/// The largest finite f64.
+pub const LARGEST: f64 = 1.7976931348623157e308;
+
 /// The f64 of a pattern of 64 bits. Each pattern of a NaN gives a NaN; which one is not said.
 ///
 /// Refuses nothing.
@@ -25,7 +28,8 @@ pub fn of_bits(pattern: u64) -> f64
 pub fn is_finite(v: f64) -> bool
     ensures { λ r. ⌜ r ≡ finite v ⌝ }
 {
-    (v < 1.0 / 0.0) & (-1.0 / 0.0 < v)
+    // A test by infinities would be made one of a value's class, and no loop takes several values at a time by that.
+    (v <= LARGEST) & (-LARGEST <= v)
 }
 
 /// Whether all values are finite; of no values, yes.
