@@ -21,7 +21,7 @@ use Rattle.attributes.specs.declared.checks.Tested.{Tested}
 use Rattle.attributes.specs.Records.{recordWrong, recordWrongP, recordWrongU, tooLarge, sampleP, sampleU, full}
 use Rattle.attributes.specs.Evaluating.{storedRightP, storedRightU, wrongP, wrongU, totalOf, centreOf}
 use Rattle.attributes.specs.Steps.{tested, adding, ahead, Small}
-use Rattle.attributes.proofs.Judging.{every-at}
+use Rattle.laws.proofs.Judged.{every-at}
 use Rattle.attributes.proofs.Totalling.{Exact, total-exact}
 
 -- ---- the record beside its slices

@@ -1,6 +1,6 @@
 -- Laws of the charts' records, of adding and of evaluating.
 pub mod Answers
-pub mod Judging
+pub mod Samples
 pub mod Totalling
 pub mod Held
 pub mod Adding

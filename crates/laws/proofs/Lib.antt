@@ -5,6 +5,7 @@ pub mod OneBit
 pub mod FirstBits
 pub mod Digits
 pub mod Lists
+pub mod Judged
 pub mod Filling
 pub mod Lending
 pub mod Rooms

@@ -1,12 +1,20 @@
--- `proportions::sample_right` meets its contract: none of the three tests applies. Assumes nothing.
-use mathlib.Core.Path.{ap, _∙_}
-use mathlib.Core.Bool.{not}
-use Rattle.attributes.proofs.Judging.{inspected-alone, none-of-3}
-use Rattle.attributes.proofs.proportions.sample_right.Statement.{statement}
-use Rattle.attributes.proofs.proportions.sample_right.Tie as tie
+-- `proportions::excess` meets its contract: a sample is right where no bit is above the lowest 32. Assumes nothing.
+use borrow.Author.Needs.{needs}
+use Rattle.attributes.proofs.Samples.{bits-tell}
+use Rattle.attributes.proofs.proportions.excess.Statement.{statement}
+use Rattle.attributes.proofs.proportions.excess.Tie as tie
+
+wrapping-sub-u64-requires : tie.Need-wrapping-sub-u64-requires
+wrapping-sub-u64-requires c κs = search needs
+
+wrapping-sub-u64-requires-2 : tie.Need-wrapping-sub-u64-requires-2
+wrapping-sub-u64-requires-2 c κs = search needs
 
 returns : tie.Need-returns
-returns c = ap not (inspected-alone 4294967295 (c .args .damaged) (c .args .inspected)) ∙ none-of-3 _ _ _
+returns c =
+    let less = c .wrapping-sub-u642 in
+    let rest = c .before .wrapping-sub-u64 in
+    bits-tell _ _ _ _ (search needs) (search needs) (rest .ensures) (less .ensures)
 
-pub sample-right-spec : {M : Type 1} → statement M
-sample-right-spec = tie.close (tie.spec returns)
+pub excess-spec : {M : Type 1} → statement M
+excess-spec = tie.close (tie.spec wrapping-sub-u64-requires wrapping-sub-u64-requires-2 returns)

@@ -2,7 +2,7 @@
 use mathlib.Core.Path.{ap, _∙_}
 use mathlib.Core.Bool.{Bool, not, _||_}
 use Rattle.attributes.specs.Records.{tooLarge}
-use Rattle.attributes.proofs.Judging.{none-of-2}
+use Rattle.attributes.proofs.Samples.{none-of-2}
 use borrow.Author.Needs.{needs}
 use Rattle.attributes.proofs.rates.sample_right.Statement.{statement}
 use Rattle.attributes.proofs.rates.sample_right.Tie as tie

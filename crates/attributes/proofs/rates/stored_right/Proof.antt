@@ -4,7 +4,7 @@ use lib.Ieee.{nan}
 use lib.ListN.{getD}
 use Rattle.attributes.specs.Records.{sampleU}
 use Rattle.attributes.specs.Evaluating.{right, storedRightU}
-use Rattle.attributes.proofs.Judging.{Judged, judged-starts, judged-next, judged-all}
+use Rattle.laws.proofs.Judged.{Judged, judged-starts, judged-next, judged-all}
 use borrow.Author.Needs.{needs}
 use Rattle.attributes.proofs.rates.stored_right.Statement.{statement}
 use Rattle.attributes.proofs.rates.stored_right.Tie as tie
