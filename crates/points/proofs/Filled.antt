@@ -2,21 +2,51 @@
 use mathlib.Core.Path.{_≡_, refl, sym, ap, ap₂, _∙_}
 use mathlib.Core.Bool.{Bool, true, false, _&&_, false≢true}
 use mathlib.Core.List.{List, [], _∷_, map}
-use Prim.Native.Nat.{ℕ, _<_}
+use Prim.Native.Nat.{ℕ, zero, suc, _+_, _≤_, _<_}
 use native.Mathlib.Omega.{arith}
 use lib.Ieee.{Float, nan, binary64}
-use lib.ListN.{length, getD}
+use lib.ListN.{length, getD, set}
 use Rattle.laws.specs.Bools.{every}
-use Rattle.laws.specs.Lists.{tabulate}
+use Rattle.laws.specs.Lists.{tabulateFrom, tabulate}
 use Rattle.laws.proofs.Bools.{both}
-use Rattle.laws.proofs.Lists.{length-tabulate, getD-tabulate, same-tabulate, tabulate-map}
+use Rattle.laws.proofs.Lists.{length-tabulate, tabulate-map}
+use Rattle.laws.proofs.Filling.{Tabling, tabling-starts, tabling-length, tabling-room, tabling-goes-on, tabling-all, in-place}
+use Rattle.laws.proofs.Judged.{Judged, judged-starts, judged-next, judged-all}
 use Rattle.floats.specs.Finite.{finite, allFinite}
 use Rattle.floats.proofs.Infinite.{finite-sum, finite-product}
 use Rattle.points.specs.Points.{upperOf, lowerOf, beyond, Point, pointAt, column, Plot, uppers, lowers, outs, sound}
-use Rattle.points.specs.Steps.{plotBy, lowersBy, uppersBy, outsBy}
+use Rattle.points.specs.Steps.{plotBy}
 
--- ---- finite upper limits are those of finite sigmas
+-- ---- points of which all is finite
 
+-- but for the sigma
+abbrev pub firm : Point → Bool
+firm p = finite (p .value) && finite (p .ucl) && finite (p .lcl)
+
+middle : (a b c d : Bool) → (a && b) && (c && d) ≡ (a && c) && (b && d)
+middle true true c d = refl
+middle true false true d = refl
+middle true false false d = refl
+middle false b c d = refl
+
+module _ (f g : ℕ → Bool) where
+  every-both : (i n : ℕ) → every (tabulateFrom (λ k. f k && g k) i n) ≡ every (tabulateFrom f i n) && every (tabulateFrom g i n)
+  unfolding every tabulateFrom
+  every-both i zero = refl
+  every-both i (suc n) =
+      ap (λ (b : Bool). (f i && g i) && b) (every-both (suc i) n)
+      ∙ middle (f i) (g i) (every (tabulateFrom f (suc i) n)) (every (tabulateFrom g (suc i) n))
+
+map-from : {A B : Type 0} (f : A → B) (g : ℕ → A) (i n : ℕ) → map f (tabulateFrom g i n) ≡ tabulateFrom (λ k. f (g k)) i n
+unfolding tabulateFrom
+map-from f g i zero = refl
+map-from f g i (suc n) = ap (λ (l : List _). f (g i) ∷ l) (map-from f g (suc i) n)
+
+each-finite : (f : ℕ → Float) (n : ℕ) → every (tabulate (λ k. finite (f k)) n) ≡ allFinite (tabulate f n)
+unfolding allFinite
+each-finite f n = ap every (sym (map-from finite f 0 n))
+
+-- finite upper limits are those of finite sigmas
 finite-sigmas : (cl : Float) (ss : List Float) → allFinite (map (upperOf cl) ss) ≡ true → allFinite ss ≡ true
 unfolding allFinite every upperOf
 finite-sigmas cl [] h = refl
@@ -24,42 +54,97 @@ finite-sigmas cl (s ∷ ss) h =
     let both-so = both (finite (upperOf cl s)) (allFinite (map (upperOf cl) ss)) h in
     ap₂ _&&_ (finite-product binary64 _ s (finite-sum binary64 cl _ (both-so .0) .1) .1) (finite-sigmas cl ss (both-so .1))
 
-implied : (p c d e : Bool) → (d ≡ true → c ≡ true) → (p && d && e) ≡ (p && c && d && e)
-implied false c d e h = refl
-implied true true d e h = refl
-implied true false true e h = absurd (false≢true (h refl))
-implied true false false e h = refl
-
--- ---- what the loops leave
+implied : (p v c d e : Bool) → (d ≡ true → c ≡ true) → p && (v && d && e) ≡ p && v && c && d && e
+implied false v c d e h = refl
+implied true false c d e h = refl
+implied true true true d e h = refl
+implied true true false true e h = absurd (false≢true (h refl))
+implied true true false false e h = refl
 
 module _ (cl : Float) (vs ss : List Float) (n : length ss ≡ length vs) where
-  module _ {us ls : List Float} (u : us ≡ uppersBy cl ss) (l : ls ≡ lowersBy cl ss) where
-    pub uppers-are : us ≡ uppers (plotBy cl vs ss)
-    uppers-are = u ∙ ap (tabulate (λ i. upperOf cl (getD ss i nan))) n
+  abbrev g : Plot
+  g = plotBy cl vs ss
 
-    pub lowers-are : ls ≡ lowers (plotBy cl vs ss)
-    lowers-are = l ∙ ap (tabulate (λ i. lowerOf cl (getD ss i nan))) n
+  all-firm : every (tabulate (λ k. firm (pointAt g k)) (length vs)) ≡ allFinite vs && allFinite (uppers g) && allFinite (lowers g)
+  unfolding allFinite
+  all-firm =
+      every-both (λ k. finite (pointAt g k .value) && finite (pointAt g k .ucl)) (λ k. finite (pointAt g k .lcl)) 0 (length vs)
+      ∙ ap₂ _&&_
+      (every-both (λ k. finite (pointAt g k .value)) (λ k. finite (pointAt g k .ucl)) 0 (length vs)
+      ∙ ap₂ _&&_ (ap every (tabulate-map finite vs nan)) (each-finite (λ k. pointAt g k .ucl) (length vs)))
+      (each-finite (λ k. pointAt g k .lcl) (length vs))
 
-    upper-at : (k : ℕ) → k < length vs → getD us k nan ≡ upperOf cl (getD ss k nan)
-    upper-at k h = ap (λ (x : List Float). getD x k nan) u ∙ getD-tabulate (λ i. upperOf cl (getD ss i nan)) (length ss) k nan (omega arith)
+  sound-is : {centre all : Bool} → centre ≡ finite cl → all ≡ every (tabulate (λ k. firm (pointAt g k)) (length vs)) → (centre && all) ≡ sound g
+  unfolding sound
+  sound-is p q =
+      ap₂ _&&_ p (q ∙ all-firm)
+      ∙ implied (finite cl) (allFinite vs) (allFinite ss) (allFinite (uppers g)) (allFinite (lowers g))
+      (λ h. finite-sigmas cl ss (ap allFinite (sym (tabulate-map (upperOf cl) ss nan) ∙ ap (tabulate (λ i. upperOf cl (getD ss i nan))) n) ∙ h))
 
-    lower-at : (k : ℕ) → k < length vs → getD ls k nan ≡ lowerOf cl (getD ss k nan)
-    lower-at k h = ap (λ (x : List Float). getD x k nan) l ∙ getD-tabulate (λ i. lowerOf cl (getD ss i nan)) (length ss) k nan (omega arith)
+-- ---- the loop of limits and verdicts
 
-    pub outs-are : {os : List Bool} → os ≡ outsBy vs us ls → os ≡ outs (plotBy cl vs ss)
-    outs-are e =
-        e
-        ∙ same-tabulate (λ k. beyond (getD vs k nan) (getD us k nan) (getD ls k nan)) (λ k. pointAt (plotBy cl vs ss) k .outOfControl) (length vs)
-        (λ k h. ap₂ (λ (x y : Float). beyond (getD vs k nan) x y) (upper-at k h) (lower-at k h))
+-- after i points: the fronts of the columns are written, and `all` tells of the points so far
+pub record Bounding (g : Plot) (lcl₀ : List Float) (out₀ : List Bool) (ucl lcl : List Float) (out : List Bool) (all : Bool) (i : ℕ) : Type 0 where
+  pub of-ucl : Tabling (λ k. pointAt g k .ucl) (length (g .values)) (g .sigmas) ucl i
+  pub of-lcl : Tabling (λ k. pointAt g k .lcl) (length (g .values)) lcl₀ lcl i
+  pub of-out : Tabling (λ k. pointAt g k .outOfControl) (length (g .values)) out₀ out i
+  pub of-all : Judged (λ k. firm (pointAt g k)) (length (g .values)) i all
 
-    pub sound-is : {a b d e : Bool} → a ≡ finite cl → b ≡ allFinite vs → d ≡ allFinite us → e ≡ allFinite ls
-        → (a && b && d && e) ≡ sound (plotBy cl vs ss)
-    unfolding sound
-    sound-is p q s t =
-        rw (p, q, s, t)
-        (implied (finite cl && allFinite vs) (allFinite ss) (allFinite us) (allFinite ls)
-        (λ h. finite-sigmas cl ss (ap allFinite (sym (tabulate-map (upperOf cl) ss nan)) ∙ sym (ap allFinite u) ∙ h))
-        ∙ ap₂ (λ (x y : List Float). finite cl && allFinite vs && allFinite ss && allFinite x && allFinite y) uppers-are lowers-are)
+module _ (cl : Float) (vs ss lcl₀ : List Float) (out₀ : List Bool) where
+  -- each has an entry for each value
+  abbrev Long : Type 0
+  Long = (length ss ≡ length vs) × (length lcl₀ ≡ length vs) × (length out₀ ≡ length vs)
+
+  abbrev pub Bounds : List Float → List Float → List Bool → Bool → ℕ → Type 0
+  Bounds ucl lcl out all i = Bounding (plotBy cl vs ss) lcl₀ out₀ ucl lcl out all i
+
+  pub bounds-start : Long → Bounds ss lcl₀ out₀ true 0
+  bounds-start long = record {
+    of-ucl = tabling-starts _ _ _ (omega (arith, long));
+    of-lcl = tabling-starts _ _ _ (omega (arith, long));
+    of-out = tabling-starts _ _ _ (omega (arith, long));
+    of-all = judged-starts _ _;
+  }
+
+  module _ (ucl lcl : List Float) (out : List Bool) (all : Bool) (i : ℕ) (b : Bounds ucl lcl out all i) where
+    pub bounds-rooms : i < length vs → (i < length ucl) × (i < length lcl) × (i < length out)
+    bounds-rooms h = (
+      tabling-room _ _ _ _ _ (b .of-ucl) h,
+      tabling-room _ _ _ _ _ (b .of-lcl) h,
+      tabling-room _ _ _ _ _ (b .of-out) h,
+    )
+
+    pub bounds-lengths : (length ucl ≡ length ss) × (length lcl ≡ length lcl₀) × (length out ≡ length out₀)
+    bounds-lengths = (
+      tabling-length _ _ _ _ _ (b .of-ucl),
+      tabling-length _ _ _ _ _ (b .of-lcl),
+      tabling-length _ _ _ _ _ (b .of-out),
+    )
+
+    pub bounds-go-on : (upper lower : Float) (firm-so : Bool) → i < length vs → upper ≡ upperOf cl (getD ucl i nan) → lower ≡ lowerOf cl (getD ucl i nan)
+        → firm-so ≡ finite (getD vs i nan) && finite upper && finite lower
+        → Bounds (set ucl i upper) (set lcl i lower) (set out i (beyond (getD vs i nan) upper lower)) (all && firm-so) (i + 1)
+    bounds-go-on upper lower firm-so h u l f =
+        let still = in-place _ _ _ _ _ (b .of-ucl) nan in
+        let up : upper ≡ pointAt (plotBy cl vs ss) i .ucl = u ∙ ap (upperOf cl) still in
+        let low : lower ≡ pointAt (plotBy cl vs ss) i .lcl = l ∙ ap (lowerOf cl) still in
+        record {
+          of-ucl = tabling-goes-on _ _ _ _ _ (b .of-ucl) upper h up;
+          of-lcl = tabling-goes-on _ _ _ _ _ (b .of-lcl) lower h low;
+          of-out = tabling-goes-on _ _ _ _ _ (b .of-out) _ h (ap₂ (beyond (getD vs i nan)) up low);
+          of-all = judged-next _ _ _ _ (b .of-all) firm-so h (f ∙ ap₂ (λ (x y : Float). finite (getD vs i nan) && finite x && finite y) up low);
+        }
+
+    pub bounds-end : {centre : Bool} → Long → length vs ≤ i → centre ≡ finite cl
+        → ((centre && all) ≡ sound (plotBy cl vs ss))
+        × ((ucl ≡ uppers (plotBy cl vs ss)) × ((lcl ≡ lowers (plotBy cl vs ss)) × (out ≡ outs (plotBy cl vs ss))))
+    bounds-end long h c = (
+      sound-is cl vs ss (long .0) c (judged-all _ _ _ _ (b .of-all) h),
+      (
+        tabling-all _ _ _ _ _ (b .of-ucl) (omega (arith, long)) h,
+        (tabling-all _ _ _ _ _ (b .of-lcl) (omega (arith, long)) h, tabling-all _ _ _ _ _ (b .of-out) (omega (arith, long)) h),
+      ),
+    )
 
 -- a column has as many entries as there are points
 pub column-length : {A : Type 0} (f : Point → A) (g : Plot) → length (column f g) ≡ length (g .values)

@@ -5,7 +5,7 @@ use Prim.Native.Nat.{ℕ}
 use lib.Ieee.{Float, nan}
 use lib.ListN.{length, getD}
 use Rattle.laws.specs.Lists.{tabulate}
-use Rattle.points.specs.Points.{upperOf, lowerOf, beyond, hasZ, zOf, Plot}
+use Rattle.points.specs.Points.{hasZ, zOf, Plot}
 
 -- the number of a call that came as far as 7
 abbrev pub settled : Bool → ℕ
@@ -16,17 +16,8 @@ settled sound = cond sound 0 7
 abbrev pub plotBy : Float → List Float → List Float → Plot
 plotBy cl values sigmas = record { centre = cl; values = values; sigmas = sigmas }
 
-abbrev pub lowersBy : Float → List Float → List Float
-lowersBy cl sigmas = tabulate (λ i. lowerOf cl (getD sigmas i nan)) (length sigmas)
-
-abbrev pub uppersBy : Float → List Float → List Float
-uppersBy cl sigmas = tabulate (λ i. upperOf cl (getD sigmas i nan)) (length sigmas)
-
 abbrev pub zsBy : Float → List Float → List Float → List Float
 zsBy cl values sigmas = tabulate (λ i. zOf (getD values i nan) cl (getD sigmas i nan)) (length values)
 
 abbrev pub hasZsBy : List Float → List Float → List Bool
 hasZsBy values sigmas = tabulate (λ i. hasZ (getD sigmas i nan)) (length values)
-
-abbrev pub outsBy : List Float → List Float → List Float → List Bool
-outsBy values ucl lcl = tabulate (λ i. beyond (getD values i nan) (getD ucl i nan) (getD lcl i nan)) (length values)

@@ -1,31 +1,9 @@
-// The columns of a chart's points, a loop each but for z and whether there is one. The sigmas stand where the upper limits are to stand.
+// The columns of a chart's points, by two loops. The sigmas stand where the upper limits are to stand.
 use super::point;
 ghost use mathlib.Core.Path.{_≡_};
 ghost use lib.ListN.{length};
 ghost use Rattle.points.specs.Points.{sound, uppers, lowers, outs, zs, hasZs};
-ghost use Rattle.points.specs.Steps.{plotBy, lowersBy, uppersBy, hasZsBy, zsBy, outsBy};
-
-fn fill_lower(cl: f64, sigmas: &[f64], out: &mut [f64])
-    requires { ⌜ length (now out) ≡ length (now sigmas) ⌝ }
-    ensures { λ _. ⌜ now (out .exit) ≡ lowersBy cl (now (sigmas .entry)) ⌝ }
-{
-    let mut i = 0;
-    while i < sigmas.len() {
-        out[i] = point::lower(cl, sigmas[i]);
-        i += 1;
-    }
-}
-
-// In place: a sigma becomes the upper limit.
-fn fill_upper(cl: f64, out: &mut [f64])
-    ensures { λ _. ⌜ now (out .exit) ≡ uppersBy cl (now (out .entry)) ⌝ }
-{
-    let mut i = 0;
-    while i < out.len() {
-        out[i] = point::upper(cl, out[i]);
-        i += 1;
-    }
-}
+ghost use Rattle.points.specs.Steps.{plotBy, hasZsBy, zsBy};
 
 // The standardized values, and where there is one: in one loop, since dividing leaves time for the other.
 fn fill_z(values: &[f64], cl: f64, sigmas: &[f64], z: &mut [f64], has_z: &mut [bool])
@@ -42,19 +20,8 @@ fn fill_z(values: &[f64], cl: f64, sigmas: &[f64], z: &mut [f64], has_z: &mut [b
     }
 }
 
-fn fill_out(values: &[f64], ucl: &[f64], lcl: &[f64], out: &mut [bool])
-    requires { ⌜ (length (now out) ≡ length (now values)) × (length (now ucl) ≡ length (now values))
-        × (length (now lcl) ≡ length (now values)) ⌝ }
-    ensures { λ _. ⌜ now (out .exit) ≡ outsBy (now (values .entry)) (now (ucl .entry)) (now (lcl .entry)) ⌝ }
-{
-    let mut i = 0;
-    while i < values.len() {
-        out[i] = (ucl[i] < values[i]) | (values[i] < lcl[i]);
-        i += 1;
-    }
-}
-
-// Limits and verdicts, and whether the centre, every value, sigma and limit is finite.
+// Limits and verdicts, and whether the centre, every value, sigma and limit is finite: in one loop, since all of it is asked of
+// the limits. A sigma becomes the upper limit, which is not finite where the sigma is not.
 pub fn bounds(cl: f64, values: &[f64], ucl: &mut [f64], lcl: &mut [f64], out: &mut [bool]) -> bool
     requires { ⌜ (length (now ucl) ≡ length (now values)) × (length (now lcl) ≡ length (now values))
         × (length (now out) ≡ length (now values)) ⌝ }
@@ -64,14 +31,20 @@ pub fn bounds(cl: f64, values: &[f64], ucl: &mut [f64], lcl: &mut [f64], out: &m
     ensures out { λ r. ⌜ now (out .exit) ≡ outs (plotBy cl (now (values .entry)) (now (ucl .entry))) ⌝ }
 {
     let centre = floats::is_finite(cl);
-    let points = floats::all_finite(values);
-    fill_lower(cl, ucl, lcl);
-    fill_upper(cl, ucl);
-    fill_out(values, ucl, lcl, out);
-    let above = floats::all_finite(ucl);
-    let below = floats::all_finite(lcl);
-    // a sigma that is not finite leaves no finite upper limit
-    centre & points & above & below
+    let mut all = true;
+    let mut i = 0;
+    while i < values.len() {
+        let value = values[i];
+        let sigma = ucl[i];
+        let upper = point::upper(cl, sigma);
+        let lower = point::lower(cl, sigma);
+        ucl[i] = upper;
+        lcl[i] = lower;
+        out[i] = (upper < value) | (value < lower);
+        all = all & point::is_finite(value, upper, lower);
+        i += 1;
+    }
+    centre & all
 }
 
 // All columns.

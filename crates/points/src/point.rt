@@ -1,5 +1,7 @@
 // A point about a centre.
 ghost use mathlib.Core.Path.{_≡_};
+ghost use mathlib.Core.Bool.{_&&_};
+ghost use Rattle.floats.specs.Finite.{finite};
 ghost use Rattle.points.specs.Points.{upperOf, lowerOf, zOf};
 
 // The upper limit.
@@ -23,4 +25,11 @@ pub fn standardized(value: f64, cl: f64, sigma: f64) -> f64
 {
     let z = (value - cl) / sigma;
     if 0.0 < sigma { z } else { 0.0 }
+}
+
+// Whether its value and both limits are.
+pub fn is_finite(value: f64, ucl: f64, lcl: f64) -> bool
+    ensures { λ r. ⌜ r ≡ finite value && finite ucl && finite lcl ⌝ }
+{
+    floats::is_finite(value) & floats::is_finite(ucl) & floats::is_finite(lcl)
 }
