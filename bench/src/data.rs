@@ -97,6 +97,11 @@ pub fn units() -> Samples {
     Samples { counts, sizes: Sizes::Units(sizes) }
 }
 
+/// The same samples, with nothing damaged: about a centre that is worked out, all roots are of zero.
+pub fn undamaged(samples: Samples) -> Samples {
+    Samples { counts: vec![0; POINTS], ..samples }
+}
+
 /// Marks as bytes, low byte first.
 pub fn bytes_of_marks(marks: &[u16]) -> Vec<u8> {
     marks.iter().flat_map(|m| m.to_le_bytes()).collect()

@@ -9,7 +9,7 @@ mod stops;
 mod time;
 
 use data::{Samples, Sizes, LIMITS, POINTS};
-use time::{keep, lasting, medians, opaque, quick_of_single};
+use time::{keep, lasting, median, medians, opaque, single};
 
 const SHEWHART: u16 = 1;
 const NELSON: u16 = 255;
@@ -356,8 +356,10 @@ fn attribute_charts(turns: usize) {
     for (name, samples, centre) in [
         ("P, computed centre", data::parcels(), None),
         ("P, given centre", data::parcels(), Some(0.03)),
+        ("P, none damaged", data::undamaged(data::parcels()), None),
         ("U, computed centre", data::units(), None),
         ("U, given centre", data::units(), Some(2.3)),
+        ("U, none damaged", data::undamaged(data::units()), None),
     ] {
         let mut columns = ours::Columns::new(POINTS);
         let cl = columns.evaluate(centre, &samples);
@@ -375,14 +377,10 @@ fn attribute_charts(turns: usize) {
         again.iter_mut().for_each(|x| *x = x.sqrt());
         assert_eq!(numbers, again, "roots differ: {name}");
 
-        let [mine, theirs, root, machines] = quick_of_single(
-            4 * turns,
+        // Ours and its roots one right after the other: what is told as left is the median of their differences.
+        let times = single(
+            turns,
             [
-                // Like the Rust's chart, which was worked out for one sample less, ours is not the first time.
-                &mut || {
-                    keep(columns.evaluate(centre, opaque(&samples)));
-                    lasting(|| keep(columns.evaluate(centre, opaque(&samples))))
-                },
                 &mut || {
                     let mut chart = rust::Attributes::filled(centre, &samples, POINTS - 1);
                     let time = lasting(|| chart.add(opaque(&samples), POINTS - 1));
@@ -390,17 +388,23 @@ fn attribute_charts(turns: usize) {
                     time
                 },
                 &mut || {
-                    numbers.copy_from_slice(&variances);
-                    lasting(|| ours::roots(opaque(&mut numbers)))
-                },
-                &mut || {
                     again.copy_from_slice(&variances);
                     lasting(|| opaque(&mut again).iter_mut().for_each(|x| *x = x.sqrt()))
                 },
+                // Like the Rust's chart, which was worked out for one sample less, ours is not the first time.
+                &mut || {
+                    keep(columns.evaluate(centre, opaque(&samples)));
+                    lasting(|| keep(columns.evaluate(centre, opaque(&samples))))
+                },
+                &mut || {
+                    numbers.copy_from_slice(&variances);
+                    lasting(|| ours::roots(opaque(&mut numbers)))
+                },
             ],
-        )
-        .map(|t| t / POINTS as f64);
-        let (left, rusts) = (mine - root, theirs - machines);
+        );
+        let sample = |of: &dyn Fn(&[f64; 4]) -> f64| median(&times, of) / POINTS as f64;
+        let [theirs, machines, mine, root] = [0, 1, 2, 3].map(|k| sample(&|turn| turn[k]));
+        let (left, rusts) = (sample(&|turn| turn[2] - turn[3]), sample(&|turn| turn[0] - turn[1]));
         println!(
             "{name:<36}{mine:>8.2}{theirs:>16.2}{:>8.2}{root:>10.2}{machines:>16.2}{left:>10.2}{rusts:>12.2}{:>8.2}",
             mine / theirs,

@@ -1,4 +1,4 @@
-//! Measuring: contenders take turns, and of each the median is told, or what it takes in quick turns.
+//! Measuring: contenders take turns, and of each the median is told, or of what one takes more than another in a turn.
 
 use std::time::{Duration, Instant};
 
@@ -24,17 +24,26 @@ pub fn keep<T>(value: T) {
 /// measured once, so that what slows the machine for a while slows all of them.
 pub fn medians<const N: usize>(turns: usize, mut contenders: [&mut dyn FnMut(); N]) -> [f64; N] {
     let repeats: Vec<u32> = contenders.iter_mut().map(|call| repeats_of(call)).collect();
-    by_turns(turns, 2, |k| time(repeats[k], contenders[k]).as_nanos() as f64 / f64::from(repeats[k]))
+    let times =
+        by_turns(turns, |k| time(repeats[k], contenders[k]).as_nanos() as f64 / f64::from(repeats[k]));
+    std::array::from_fn(|k| median(&times, |turn: &[f64; N]| turn[k]))
 }
 
-/// The time that one call of each contender in twenty stays below. The contenders are made ready for each call, and
-/// say themselves how long the call alone took, by `lasting`: for calls that take long enough to be told by the clock
-/// once. Times that are taken from one another want the machine's best pace: medians may be of two paces.
-pub fn quick_of_single<const N: usize>(
+/// The times of one call of each contender, in nanoseconds, turn by turn. The contenders are made ready for each call,
+/// and say themselves how long the call alone took, by `lasting`: for calls that take long enough to be told by the
+/// clock once.
+pub fn single<const N: usize>(
     turns: usize,
     mut contenders: [&mut dyn FnMut() -> Duration; N],
-) -> [f64; N] {
-    by_turns(turns, 20, |k| contenders[k]().as_nanos() as f64)
+) -> Vec<[f64; N]> {
+    by_turns(turns, |k| contenders[k]().as_nanos() as f64)
+}
+
+/// The median over the turns.
+pub fn median<const N: usize>(turns: &[[f64; N]], of: impl Fn(&[f64; N]) -> f64) -> f64 {
+    let mut times: Vec<f64> = turns.iter().map(of).collect();
+    times.sort_by(f64::total_cmp);
+    times[times.len() / 2]
 }
 
 /// How long a call takes.
@@ -44,18 +53,8 @@ pub fn lasting(call: impl FnOnce()) -> Duration {
     begun.elapsed()
 }
 
-/// The time that of each contender one turn in `share` stays below.
-fn by_turns<const N: usize>(turns: usize, share: usize, mut time_of: impl FnMut(usize) -> f64) -> [f64; N] {
-    let mut times: [Vec<f64>; N] = [(); N].map(|()| Vec::new());
-    for _ in 0..turns {
-        for (k, of_one) in times.iter_mut().enumerate() {
-            of_one.push(time_of(k));
-        }
-    }
-    times.map(|mut of_one| {
-        of_one.sort_by(f64::total_cmp);
-        of_one[of_one.len() / share]
-    })
+fn by_turns<const N: usize>(turns: usize, mut time_of: impl FnMut(usize) -> f64) -> Vec<[f64; N]> {
+    (0..turns).map(|_| std::array::from_fn(&mut time_of)).collect()
 }
 
 fn repeats_of(call: &mut dyn FnMut()) -> u32 {
