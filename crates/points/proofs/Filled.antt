@@ -10,11 +10,11 @@ use Rattle.laws.specs.Bools.{every}
 use Rattle.laws.specs.Lists.{tabulateFrom, tabulate}
 use Rattle.laws.proofs.Bools.{both}
 use Rattle.laws.proofs.Lists.{length-tabulate, tabulate-map}
-use Rattle.laws.proofs.Filling.{Tabling, tabling-starts, tabling-length, tabling-room, tabling-goes-on, tabling-all, in-place}
+use Rattle.laws.proofs.Filling.{Tabling, tabling-starts, tabling-goes-on, tabling-all, in-place}
 use Rattle.laws.proofs.Judged.{Judged, judged-starts, judged-next, judged-all}
 use Rattle.floats.specs.Finite.{finite, allFinite}
 use Rattle.floats.proofs.Infinite.{finite-sum, finite-product}
-use Rattle.points.specs.Points.{upperOf, lowerOf, beyond, Point, pointAt, column, Plot, uppers, lowers, outs, sound}
+use Rattle.points.specs.Points.{upperOf, lowerOf, beyond, hasZ, zOf, Point, pointAt, column, Plot, uppers, lowers, outs, zs, hasZs, sound}
 use Rattle.points.specs.Steps.{plotBy}
 
 -- ---- points of which all is finite
@@ -81,68 +81,69 @@ module _ (cl : Float) (vs ss : List Float) (n : length ss ≡ length vs) where
       ∙ implied (finite cl) (allFinite vs) (allFinite ss) (allFinite (uppers g)) (allFinite (lowers g))
       (λ h. finite-sigmas cl ss (ap allFinite (sym (tabulate-map (upperOf cl) ss nan) ∙ ap (tabulate (λ i. upperOf cl (getD ss i nan))) n) ∙ h))
 
--- ---- the loop of limits and verdicts
+-- ---- the loop
 
 -- after i points: the fronts of the columns are written, and `all` tells of the points so far
-pub record Bounding (g : Plot) (lcl₀ : List Float) (out₀ : List Bool) (ucl lcl : List Float) (out : List Bool) (all : Bool) (i : ℕ) : Type 0 where
+pub record Columns (g : Plot) (lcl₀ : List Float) (out₀ : List Bool) (z₀ : List Float) (hasZ₀ : List Bool)
+    (ucl lcl : List Float) (out : List Bool) (z : List Float) (hasZ : List Bool) (all : Bool) (i : ℕ) : Type 0 where
   pub of-ucl : Tabling (λ k. pointAt g k .ucl) (length (g .values)) (g .sigmas) ucl i
   pub of-lcl : Tabling (λ k. pointAt g k .lcl) (length (g .values)) lcl₀ lcl i
   pub of-out : Tabling (λ k. pointAt g k .outOfControl) (length (g .values)) out₀ out i
+  pub of-z : Tabling (λ k. pointAt g k .z) (length (g .values)) z₀ z i
+  pub of-has-z : Tabling (λ k. pointAt g k .hasZ) (length (g .values)) hasZ₀ hasZ i
   pub of-all : Judged (λ k. firm (pointAt g k)) (length (g .values)) i all
 
-module _ (cl : Float) (vs ss lcl₀ : List Float) (out₀ : List Bool) where
-  -- each has an entry for each value
+module _ (cl : Float) (vs ss lcl₀ : List Float) (out₀ : List Bool) (z₀ : List Float) (hasZ₀ : List Bool) where
+  abbrev of-it : Plot
+  of-it = plotBy cl vs ss
+
+  -- each slice has an entry for each value
   abbrev Long : Type 0
-  Long = (length ss ≡ length vs) × (length lcl₀ ≡ length vs) × (length out₀ ≡ length vs)
+  Long = (length ss ≡ length vs) × (length lcl₀ ≡ length vs) × (length out₀ ≡ length vs) × (length z₀ ≡ length vs) × (length hasZ₀ ≡ length vs)
 
-  abbrev pub Bounds : List Float → List Float → List Bool → Bool → ℕ → Type 0
-  Bounds ucl lcl out all i = Bounding (plotBy cl vs ss) lcl₀ out₀ ucl lcl out all i
-
-  pub bounds-start : Long → Bounds ss lcl₀ out₀ true 0
-  bounds-start long = record {
+  pub columns-start : Long → Columns of-it lcl₀ out₀ z₀ hasZ₀ ss lcl₀ out₀ z₀ hasZ₀ true 0
+  columns-start long = record {
     of-ucl = tabling-starts _ _ _ (omega (arith, long));
     of-lcl = tabling-starts _ _ _ (omega (arith, long));
     of-out = tabling-starts _ _ _ (omega (arith, long));
+    of-z = tabling-starts _ _ _ (omega (arith, long));
+    of-has-z = tabling-starts _ _ _ (omega (arith, long));
     of-all = judged-starts _ _;
   }
 
-  module _ (ucl lcl : List Float) (out : List Bool) (all : Bool) (i : ℕ) (b : Bounds ucl lcl out all i) where
-    pub bounds-rooms : i < length vs → (i < length ucl) × (i < length lcl) × (i < length out)
-    bounds-rooms h = (
-      tabling-room _ _ _ _ _ (b .of-ucl) h,
-      tabling-room _ _ _ _ _ (b .of-lcl) h,
-      tabling-room _ _ _ _ _ (b .of-out) h,
-    )
-
-    pub bounds-lengths : (length ucl ≡ length ss) × (length lcl ≡ length lcl₀) × (length out ≡ length out₀)
-    bounds-lengths = (
-      tabling-length _ _ _ _ _ (b .of-ucl),
-      tabling-length _ _ _ _ _ (b .of-lcl),
-      tabling-length _ _ _ _ _ (b .of-out),
-    )
-
-    pub bounds-go-on : (upper lower : Float) (firm-so : Bool) → i < length vs → upper ≡ upperOf cl (getD ucl i nan) → lower ≡ lowerOf cl (getD ucl i nan)
-        → firm-so ≡ finite (getD vs i nan) && finite upper && finite lower
-        → Bounds (set ucl i upper) (set lcl i lower) (set out i (beyond (getD vs i nan) upper lower)) (all && firm-so) (i + 1)
-    bounds-go-on upper lower firm-so h u l f =
-        let still = in-place _ _ _ _ _ (b .of-ucl) nan in
-        let up : upper ≡ pointAt (plotBy cl vs ss) i .ucl = u ∙ ap (upperOf cl) still in
-        let low : lower ≡ pointAt (plotBy cl vs ss) i .lcl = l ∙ ap (lowerOf cl) still in
+  module _ (ucl lcl : List Float) (out : List Bool) (z : List Float) (has : List Bool) (all : Bool) (i : ℕ)
+      (c : Columns of-it lcl₀ out₀ z₀ hasZ₀ ucl lcl out z has all i) where
+    pub columns-go-on : (upper lower standardized : Float) (finite-so : Bool) → i < length vs → upper ≡ upperOf cl (getD ucl i nan)
+        → lower ≡ lowerOf cl (getD ucl i nan) → standardized ≡ zOf (getD vs i nan) cl (getD ucl i nan)
+        → finite-so ≡ finite (getD vs i nan) && finite upper && finite lower
+        → Columns of-it lcl₀ out₀ z₀ hasZ₀ (set ucl i upper) (set lcl i lower) (set out i (beyond (getD vs i nan) upper lower)) (set z i standardized)
+        (set has i (hasZ (getD ucl i nan))) (all && finite-so) (i + 1)
+    columns-go-on upper lower standardized finite-so h u l s f =
+        let still = in-place _ _ _ _ _ (c .of-ucl) nan in
+        let up : upper ≡ pointAt of-it i .ucl = u ∙ ap (upperOf cl) still in
+        let low : lower ≡ pointAt of-it i .lcl = l ∙ ap (lowerOf cl) still in
         record {
-          of-ucl = tabling-goes-on _ _ _ _ _ (b .of-ucl) upper h up;
-          of-lcl = tabling-goes-on _ _ _ _ _ (b .of-lcl) lower h low;
-          of-out = tabling-goes-on _ _ _ _ _ (b .of-out) _ h (ap₂ (beyond (getD vs i nan)) up low);
-          of-all = judged-next _ _ _ _ (b .of-all) firm-so h (f ∙ ap₂ (λ (x y : Float). finite (getD vs i nan) && finite x && finite y) up low);
+          of-ucl = tabling-goes-on _ _ _ _ _ (c .of-ucl) upper h up;
+          of-lcl = tabling-goes-on _ _ _ _ _ (c .of-lcl) lower h low;
+          of-out = tabling-goes-on _ _ _ _ _ (c .of-out) _ h (ap₂ (beyond (getD vs i nan)) up low);
+          of-z = tabling-goes-on _ _ _ _ _ (c .of-z) standardized h (s ∙ ap (zOf (getD vs i nan) cl) still);
+          of-has-z = tabling-goes-on _ _ _ _ _ (c .of-has-z) _ h (ap hasZ still);
+          of-all = judged-next _ _ _ _ (c .of-all) finite-so h (f ∙ ap₂ (λ (x y : Float). finite (getD vs i nan) && finite x && finite y) up low);
         }
 
-    pub bounds-end : {centre : Bool} → Long → length vs ≤ i → centre ≡ finite cl
-        → ((centre && all) ≡ sound (plotBy cl vs ss))
-        × ((ucl ≡ uppers (plotBy cl vs ss)) × ((lcl ≡ lowers (plotBy cl vs ss)) × (out ≡ outs (plotBy cl vs ss))))
-    bounds-end long h c = (
-      sound-is cl vs ss (long .0) c (judged-all _ _ _ _ (b .of-all) h),
+    pub columns-end : {centre : Bool} → Long → length vs ≤ i → centre ≡ finite cl
+        → ((centre && all) ≡ sound of-it) × ((ucl ≡ uppers of-it) × ((lcl ≡ lowers of-it) × ((out ≡ outs of-it) × ((z ≡ zs of-it) × (has ≡ hasZs of-it)))))
+    columns-end long h e = (
+      sound-is cl vs ss (long .0) e (judged-all _ _ _ _ (c .of-all) h),
       (
-        tabling-all _ _ _ _ _ (b .of-ucl) (omega (arith, long)) h,
-        (tabling-all _ _ _ _ _ (b .of-lcl) (omega (arith, long)) h, tabling-all _ _ _ _ _ (b .of-out) (omega (arith, long)) h),
+        tabling-all _ _ _ _ _ (c .of-ucl) (omega (arith, long)) h,
+        (
+          tabling-all _ _ _ _ _ (c .of-lcl) (omega (arith, long)) h,
+          (
+            tabling-all _ _ _ _ _ (c .of-out) (omega (arith, long)) h,
+            (tabling-all _ _ _ _ _ (c .of-z) (omega (arith, long)) h, tabling-all _ _ _ _ _ (c .of-has-z) (omega (arith, long)) h),
+          ),
+        ),
       ),
     )
 
