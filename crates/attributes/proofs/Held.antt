@@ -20,7 +20,7 @@ use Rattle.attributes.specs.declared.UChart.{UChart}
 use Rattle.attributes.specs.declared.checks.Tested.{Tested}
 use Rattle.attributes.specs.Records.{recordWrong, recordWrongP, recordWrongU, tooLarge, sampleP, sampleU, full}
 use Rattle.attributes.specs.Evaluating.{storedRightP, storedRightU, wrongP, wrongU, totalOf, centreOf}
-use Rattle.attributes.specs.Steps.{tested, adding, ahead, Small}
+use Rattle.attributes.specs.Steps.{tested, adding, ahead, Small, SmallTo}
 use Rattle.laws.proofs.Judged.{every-at}
 use Rattle.attributes.proofs.Totalling.{Exact, total-exact}
 
@@ -83,7 +83,7 @@ given-centre k p x e = sym (ap (λ (j : Centre). centreOf j x) e)
 
 -- ---- a record that evaluating takes
 
-small-front : (n : ℕ) (l : List ℕ) → n ≤ length l → ((i : ℕ) → i < n → getD l i 0 ≤ 4294967295) → Small (take n l)
+small-front : (n : ℕ) (l : List ℕ) → n ≤ length l → SmallTo n l → Small (take n l)
 small-front n l h each i k =
     let i-in : i < n = omega (arith, length-take-le n l h) in
     rw (getD-take n l i 0 i-in) (each i i-in)
@@ -102,11 +102,17 @@ module _ (c : PChart) (counts sizes : List ℕ) (h : wrongP c counts sizes ≡ f
       let small = accepted (tooLarge d || tooLarge n) 16 _ (omega arith) (eqb-true (firstOf (sampleP d n) 0) 0 right) .0 in
       (ltb-false 4294967295 d (or-left (tooLarge d) (tooLarge n) small), ltb-false 4294967295 n (or-right (tooLarge d) (tooLarge n) small))
 
+  pub counts-fit-P : SmallTo (c .count) counts
+  counts-fit-P i k = sample-P i k .0
+
+  pub sizes-fit-P : SmallTo (c .count) sizes
+  sizes-fit-P i k = sample-P i k .1
+
   pub small-counts-P : Small (take (c .count) counts)
-  small-counts-P = small-front (c .count) counts (held-P .in-counts) (λ i k. sample-P i k .0)
+  small-counts-P = small-front (c .count) counts (held-P .in-counts) counts-fit-P
 
   pub small-sizes-P : Small (take (c .count) sizes)
-  small-sizes-P = small-front (c .count) sizes (held-P .in-sizes) (λ i k. sample-P i k .1)
+  small-sizes-P = small-front (c .count) sizes (held-P .in-sizes) sizes-fit-P
 
   -- so no rounding has happened ahead of the centre's division
   pub totals-exact-P : Exact (totalOf (take (c .count) counts)) × Exact (totalOf (take (c .count) sizes))
@@ -120,15 +126,15 @@ module _ (c : UChart) (counts : List ℕ) (sizes : List Float) (h : wrongU c cou
   unfolding wrongU
   held-U = held _ (c .count) (length counts) (length sizes) (or-left _ _ h)
 
-  sample-U : (i : ℕ) → i < c .count → getD counts i 0 ≤ 4294967295
+  pub counts-fit-U : SmallTo (c .count) counts
   unfolding wrongU storedRightU
-  sample-U i k =
+  counts-fit-U i k =
       let d = getD counts i 0 in
       let right = every-at _ (c .count) (not-false _ (or-right (recordWrongU c (length counts) (length sizes)) _ h)) i k in
       ltb-false 4294967295 d (accepted (tooLarge d) 16 _ (omega arith) (eqb-true (firstOf (sampleU d (getD sizes i nan)) 0) 0 right) .0)
 
   pub small-counts-U : Small (take (c .count) counts)
-  small-counts-U = small-front (c .count) counts (held-U .in-counts) sample-U
+  small-counts-U = small-front (c .count) counts (held-U .in-counts) counts-fit-U
 
   pub total-exact-U : Exact (totalOf (take (c .count) counts))
   total-exact-U = total-exact (take (c .count) counts) (omega (arith, length-take-le (c .count) counts (held-U .in-counts), held-U .few)) small-counts-U

@@ -31,6 +31,9 @@ variancesOf variance sizes = tabulate (λ i. div binary64 variance (getD sizes i
 abbrev pub rootsOf : List Float → List Float
 rootsOf variances = tabulate (λ i. sigmaOf (getD variances i nan)) (length variances)
 
--- each count is at most 4,294,967,295
+-- each of the first n counts is at most 4,294,967,295
+abbrev pub SmallTo : ℕ → List ℕ → Type 0
+SmallTo n counts = (i : ℕ) → i < n → getD counts i 0 ≤ 4294967295
+
 abbrev pub Small : List ℕ → Type 0
-Small counts = (i : ℕ) → i < length counts → getD counts i 0 ≤ 4294967295
+Small counts = SmallTo (length counts) counts

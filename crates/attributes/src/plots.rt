@@ -1,4 +1,4 @@
-// The points of both charts, once the samples' sizes are f64s.
+// The points of both charts, once the samples' sizes are f64s. Counts fit a u32, whose cast takes least.
 use super::Evaluated;
 use super::Refusal;
 use points::Plotted;
@@ -12,15 +12,15 @@ ghost use Rattle.points.specs.Points.{sound, uppers, lowers, outs, zs, hasZs};
 ghost use Rattle.points.specs.Plotting.{plotted};
 ghost use Rattle.points.specs.Steps.{settled};
 ghost use Rattle.attributes.specs.Evaluating.{evaluated, answerFor, valuesOf, plotOf};
-ghost use Rattle.attributes.specs.Steps.{variancesOf, rootsOf};
+ghost use Rattle.attributes.specs.Steps.{variancesOf, rootsOf, SmallTo};
 
 fn fill_values(n: usize, counts: &[u64], sizes: &[f64], out: &mut [f64])
-    requires { ⌜ (n ≤ length (now counts)) × (n ≤ length (now sizes)) × (n ≤ length (now out)) ⌝ }
+    requires { ⌜ (n ≤ length (now counts)) × (n ≤ length (now sizes)) × (n ≤ length (now out)) × SmallTo n (now counts) ⌝ }
     ensures { λ _. ⌜ now (out .exit) ≡ atFront (valuesOf (now (counts .entry)) (take n (now (sizes .entry)))) (now (out .entry)) ⌝ }
 {
     let mut i = 0;
     while i < n {
-        out[i] = std::num::nearest_u64_to_f64(counts[i]) / sizes[i];
+        out[i] = (counts[i] as u32) as f64 / sizes[i];
         i += 1;
     }
 }
@@ -74,7 +74,7 @@ pub fn evaluate(
     has_z: &mut [bool],
 ) -> Evaluated
     requires { ⌜ (n ≤ length (now counts)) × (n ≤ length (now values)) × (n ≤ length (now ucl)) × (n ≤ length (now lcl))
-        × (n ≤ length (now out)) × (n ≤ length (now z)) × (n ≤ length (now «has_z»)) ⌝ }
+        × (n ≤ length (now out)) × (n ≤ length (now z)) × (n ≤ length (now «has_z»)) × SmallTo n (now counts) ⌝ }
     ensures answer { λ r. ⌜ evaluated r
         ≡ answerFor (settled (sound (plotOf cl variance (now (counts .entry)) (take n (now (ucl .entry)))))) cl ⌝ }
     ensures values { λ r. ⌜ now (values .exit)

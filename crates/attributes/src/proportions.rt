@@ -15,7 +15,7 @@ ghost use Rattle.laws.specs.Refusals.{firstOf};
 ghost use Rattle.laws.specs.Front.{atFront};
 ghost use Rattle.attributes.specs.Records.{proportionAllowed, centreWrong, recordWrongP, sampleP};
 ghost use Rattle.attributes.specs.Evaluating.{right, storedRightP, wrongP, centreP, varianceP, sizesP};
-ghost use Rattle.attributes.specs.Steps.{tested};
+ghost use Rattle.attributes.specs.Steps.{tested, SmallTo};
 
 pub fn allowed(p: f64) -> bool
     ensures { λ r. ⌜ r ≡ proportionAllowed p ⌝ }
@@ -110,14 +110,14 @@ pub fn variance(cl: f64) -> f64
     cl * (1.0 - cl)
 }
 
-// The sizes as f64s, in front of a slice.
+// The sizes as f64s, in front of a slice. They fit a u32, whose cast takes least.
 pub fn fill_sizes(n: usize, sizes: &[u64], out: &mut [f64])
-    requires { ⌜ (n ≤ length (now sizes)) × (n ≤ length (now out)) ⌝ }
+    requires { ⌜ (n ≤ length (now sizes)) × (n ≤ length (now out)) × SmallTo n (now sizes) ⌝ }
     ensures { λ _. ⌜ now (out .exit) ≡ atFront (sizesP n (now (sizes .entry))) (now (out .entry)) ⌝ }
 {
     let mut i = 0;
     while i < n {
-        out[i] = std::num::nearest_u64_to_f64(sizes[i]);
+        out[i] = (sizes[i] as u32) as f64;
         i += 1;
     }
 }

@@ -10,7 +10,7 @@ use Rattle.floats.specs.Values.{plusZero}
 use Rattle.points.proofs.Plotting.{Room, has-room}
 use Rattle.attributes.specs.Evaluating.{varianceP, sizesP, wrongP, plotP, evaluateP}
 use Rattle.attributes.specs.Steps.{tested, ahead}
-use Rattle.attributes.proofs.Held.{held-P, Ahead, were-ahead}
+use Rattle.attributes.proofs.Held.{held-P, counts-fit-P, sizes-fit-P, Ahead, were-ahead}
 use Rattle.attributes.proofs.Outcomes.{answer-refused, slice-refused, finished}
 use borrow.Author.Needs.{needs}
 use Rattle.attributes.proofs.PChart.evaluate.Statement.{statement}
@@ -50,7 +50,7 @@ centre-requires : tie.Need-centre-requires
 centre-requires c κs = record-right c
 
 fill-sizes-requires : tie.Need-fill-sizes-requires
-fill-sizes-requires c κs = (held-P _ _ _ (record-right (c .before .before)) .in-sizes, room (c .before .before) .in-ucl)
+fill-sizes-requires c κs = (held-P _ _ _ (record-right (c .before .before)) .in-sizes, room (c .before .before) .in-ucl, sizes-fit-P _ _ _ (record-right (c .before .before)))
 
 variance-requires : tie.Need-variance-requires
 variance-requires c κs = search needs
@@ -61,7 +61,7 @@ evaluate-requires c κs =
     let fill-sizes = c .before .before .before .before .before .before .before .before .before .fill-sizes in
     let h = held-P _ _ _ (record-right passed) in
     let r = room passed in
-    (h .in-counts, r .in-values, omega (arith, r .in-ucl, fill-sizes .kept .1 .1 .0), r .in-lcl, r .in-out, r .in-z, r .in-has-z)
+    (h .in-counts, r .in-values, omega (arith, r .in-ucl, fill-sizes .kept .1 .1 .0), r .in-lcl, r .in-out, r .in-z, r .in-has-z, counts-fit-P _ _ _ (record-right passed))
 
 returns : tie.Need-returns
 unfolding evaluateP

@@ -10,7 +10,7 @@ use Rattle.floats.specs.Values.{plusZero}
 use Rattle.points.proofs.Plotting.{Room, has-room}
 use Rattle.attributes.specs.Evaluating.{wrongU, plotU, evaluateU}
 use Rattle.attributes.specs.Steps.{tested, ahead}
-use Rattle.attributes.proofs.Held.{held-U, Ahead, were-ahead}
+use Rattle.attributes.proofs.Held.{held-U, counts-fit-U, Ahead, were-ahead}
 use Rattle.attributes.proofs.Outcomes.{answer-refused, slice-refused, finished}
 use borrow.Author.Needs.{needs}
 use Rattle.attributes.proofs.UChart.evaluate.Statement.{statement}
@@ -58,7 +58,7 @@ evaluate-requires c κs =
     let fill-sizes = c .before .before .before .before .before .before .before .before .fill-sizes in
     let h = held-U _ _ _ (record-right passed) in
     let r = room passed in
-    (h .in-counts, r .in-values, omega (arith, r .in-ucl, fill-sizes .kept .1 .1 .0), r .in-lcl, r .in-out, r .in-z, r .in-has-z)
+    (h .in-counts, r .in-values, omega (arith, r .in-ucl, fill-sizes .kept .1 .1 .0), r .in-lcl, r .in-out, r .in-z, r .in-has-z, counts-fit-U _ _ _ (record-right passed))
 
 returns : tie.Need-returns
 unfolding evaluateU

@@ -1,5 +1,5 @@
 -- `plots::fill_values` meets its contract: the entries are written one after the other. Assumes nothing.
-use mathlib.Core.Path.{ap, _∙_}
+use mathlib.Core.Path.{refl, ap, _∙_}
 use mathlib.Core.List.{List}
 use Prim.Native.Nat.{ℕ, _-_}
 use native.Mathlib.Omega.{arith}
@@ -20,17 +20,7 @@ abbrev μ-loop : tie.MeasureT-loop
 μ-loop n counts sizes out₀ i₀ out i = n - i
 
 loop-holds : tie.Need-loop-holds Inv-loop μ-loop
-loop-holds c = tabling-starts _ _ _ (c .before .before .before .pre .2)
-
-mul-nearest-u64-to-f64 : tie.Need-mul-nearest-u64-to-f64 Inv-loop μ-loop
-mul-nearest-u64-to-f64 c = search needs
-
-shared-slice-read-nearest-u64-to-f64 :
-    tie.Need-shared-slice-read-nearest-u64-to-f64 Inv-loop μ-loop
-shared-slice-read-nearest-u64-to-f64 c = search needs
-
-nearest-u64-to-f64-requires : tie.Need-nearest-u64-to-f64-requires Inv-loop μ-loop
-nearest-u64-to-f64-requires c κs = search needs
+loop-holds c = tabling-starts _ _ _ (c .pre .2)
 
 mul-out : tie.Need-mul-out Inv-loop μ-loop
 mul-out c = search needs
@@ -38,8 +28,24 @@ mul-out c = search needs
 shared-slice-read-out : tie.Need-shared-slice-read-out Inv-loop μ-loop
 shared-slice-read-out c = search needs
 
+cast-out : tie.Need-cast-out Inv-loop μ-loop
+cast-out c =
+    let loop-test = c .before .loop-test in
+    let loop = c .before .before .loop in
+    let pre = c .before .before .before .pre in
+    omega (arith, pre .3 (loop .i) (loop-test .taken))
+
+int-to-float-out : tie.Need-int-to-float-out Inv-loop μ-loop
+int-to-float-out c = search needs
+
 mul-out-2 : tie.Need-mul-out-2 Inv-loop μ-loop
-mul-out-2 c =
+mul-out-2 c = search needs
+
+shared-slice-read-out-2 : tie.Need-shared-slice-read-out-2 Inv-loop μ-loop
+shared-slice-read-out-2 c = search needs
+
+mul-out-3 : tie.Need-mul-out-3 Inv-loop μ-loop
+mul-out-3 c =
     let loop-test = c .before .before .before .loop-test in
     let loop = c .before .before .before .before .loop in
     omega (arith, tabling-room _ _ _ _ _ (loop .inv) (loop-test .taken))
@@ -58,11 +64,9 @@ loop-less c = search needs
 
 loop-again : tie.Need-loop-again Inv-loop μ-loop
 loop-again c =
-    let nearest-u64-to-f64 = c .before .nearest-u64-to-f64 in
     let loop-test = c .before .before .before .loop-test in
     let loop = c .before .before .before .before .loop in
-    let args = c .before .before .before .before .before .before .before .before .args in
-    tabling-goes-on _ _ _ _ _ (loop .inv) _ (loop-test .taken) (ap (λ (x : Float). div binary64 x (getD (args .sizes .now) (loop .i) nan)) (nearest-u64-to-f64 .ensures))
+    tabling-goes-on _ _ _ _ _ (loop .inv) _ (loop-test .taken) refl
 
 same-length : tie.Need-same-length Inv-loop μ-loop
 same-length c = tabling-length _ _ _ _ _ (c .before .loop .inv)
@@ -71,8 +75,8 @@ returns : tie.Need-returns Inv-loop μ-loop
 returns c =
     let loop-test = c .loop-test in
     let loop = c .before .loop in
-    let args = c .before .before .before .before .before .args in
-    let pre = c .before .before .before .before .before .pre in
+    let args = c .before .before .args in
+    let pre = c .before .before .pre in
     let counts = args .counts .now in
     let f : ℕ → Float → Float = λ i x. div binary64 (whole (getD counts i 0)) x in
     tabling-ends _ _ _ _ _ (loop .inv) (loop-test .left)
@@ -85,12 +89,13 @@ fill-values-spec =
     Inv-loop
     μ-loop
     loop-holds
-    mul-nearest-u64-to-f64
-    shared-slice-read-nearest-u64-to-f64
-    nearest-u64-to-f64-requires
     mul-out
     shared-slice-read-out
+    cast-out
+    int-to-float-out
     mul-out-2
+    shared-slice-read-out-2
+    mul-out-3
     slice-write-out
     add-i
     loop-less

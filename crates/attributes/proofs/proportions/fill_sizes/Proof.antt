@@ -1,4 +1,5 @@
 -- `proportions::fill_sizes` meets its contract: the entries are written one after the other. Assumes nothing.
+use mathlib.Core.Path.{refl}
 use Prim.Native.Nat.{_-_}
 use native.Mathlib.Omega.{arith}
 use lib.ListN.{getD}
@@ -15,20 +16,26 @@ abbrev μ-loop : tie.MeasureT-loop
 μ-loop n sizes out₀ i₀ out i = n - i
 
 loop-holds : tie.Need-loop-holds Inv-loop μ-loop
-loop-holds c = tabling-starts _ _ _ (c .before .before .pre .1)
-
-mul-nearest-u64-to-f64 : tie.Need-mul-nearest-u64-to-f64 Inv-loop μ-loop
-mul-nearest-u64-to-f64 c = search needs
-
-shared-slice-read-nearest-u64-to-f64 :
-    tie.Need-shared-slice-read-nearest-u64-to-f64 Inv-loop μ-loop
-shared-slice-read-nearest-u64-to-f64 c = search needs
-
-nearest-u64-to-f64-requires : tie.Need-nearest-u64-to-f64-requires Inv-loop μ-loop
-nearest-u64-to-f64-requires c κs = search needs
+loop-holds c = tabling-starts _ _ _ (c .pre .1)
 
 mul-out : tie.Need-mul-out Inv-loop μ-loop
-mul-out c =
+mul-out c = search needs
+
+shared-slice-read-out : tie.Need-shared-slice-read-out Inv-loop μ-loop
+shared-slice-read-out c = search needs
+
+cast-out : tie.Need-cast-out Inv-loop μ-loop
+cast-out c =
+    let loop-test = c .before .loop-test in
+    let loop = c .before .before .loop in
+    let pre = c .before .before .before .pre in
+    omega (arith, pre .2 (loop .i) (loop-test .taken))
+
+int-to-float-out : tie.Need-int-to-float-out Inv-loop μ-loop
+int-to-float-out c = search needs
+
+mul-out-2 : tie.Need-mul-out-2 Inv-loop μ-loop
+mul-out-2 c =
     let loop-test = c .before .before .loop-test in
     let loop = c .before .before .before .loop in
     omega (arith, tabling-room _ _ _ _ _ (loop .inv) (loop-test .taken))
@@ -47,10 +54,9 @@ loop-less c = search needs
 
 loop-again : tie.Need-loop-again Inv-loop μ-loop
 loop-again c =
-    let nearest-u64-to-f64 = c .nearest-u64-to-f64 in
     let loop-test = c .before .before .loop-test in
     let loop = c .before .before .before .loop in
-    tabling-goes-on _ _ _ _ _ (loop .inv) _ (loop-test .taken) (nearest-u64-to-f64 .ensures)
+    tabling-goes-on _ _ _ _ _ (loop .inv) _ (loop-test .taken) refl
 
 same-length : tie.Need-same-length Inv-loop μ-loop
 same-length c = tabling-length _ _ _ _ _ (c .before .loop .inv)
@@ -68,10 +74,11 @@ fill-sizes-spec =
     Inv-loop
     μ-loop
     loop-holds
-    mul-nearest-u64-to-f64
-    shared-slice-read-nearest-u64-to-f64
-    nearest-u64-to-f64-requires
     mul-out
+    shared-slice-read-out
+    cast-out
+    int-to-float-out
+    mul-out-2
     slice-write-out
     add-i
     loop-less
