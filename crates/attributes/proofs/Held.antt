@@ -12,6 +12,7 @@ use lib.Seq.{getD-take, length-take-le}
 use Rattle.laws.specs.Bools.{every}
 use Rattle.laws.specs.Refusals.{firstOf}
 use Rattle.laws.proofs.Bools.{or-left, or-right}
+use Rattle.laws.proofs.Judged.{every-at}
 use Rattle.laws.proofs.Refusals.{Passed, accepted, were-passed}
 use Rattle.attributes.specs.declared.Centre.{Centre}
 use Rattle.attributes.specs.declared.Centre.the-variants.{Computed, Given}
@@ -21,7 +22,6 @@ use Rattle.attributes.specs.declared.checks.Tested.{Tested}
 use Rattle.attributes.specs.Records.{recordWrong, recordWrongP, recordWrongU, tooLarge, sampleP, sampleU, full}
 use Rattle.attributes.specs.Evaluating.{storedRightP, storedRightU, wrongP, wrongU, totalOf, centreOf}
 use Rattle.attributes.specs.Steps.{tested, adding, ahead, Small, SmallTo}
-use Rattle.laws.proofs.Judged.{every-at}
 use Rattle.attributes.proofs.Totalling.{Exact, total-exact}
 
 -- ---- the record beside its slices

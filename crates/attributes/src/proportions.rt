@@ -55,8 +55,8 @@ pub fn sample(damaged: u64, inspected: u64) -> Tested
     Tested::Passed
 }
 
-// Has a bit above the lowest 32 exactly where one of the three applies: a count is too large, or what is no more than the
-// inspected wraps around below zero. So many samples can be judged by all their bits together.
+// Has a bit above the lowest 32 exactly where one of the three applies: a count that is too large has one, and so has a
+// difference that wraps around below zero. So samples can be judged by the bits of all of them together.
 fn excess(damaged: u64, inspected: u64) -> u64
     ensures { λ r. ⌜ ltb r (2 ^ 32) ≡ right (sampleP damaged inspected) ⌝ }
 {

@@ -28,7 +28,7 @@ pub fn of_bits(pattern: u64) -> f64
 pub fn is_finite(v: f64) -> bool
     ensures { λ r. ⌜ r ≡ finite v ⌝ }
 {
-    // A test by infinities would be made one of a value's class, and no loop takes several values at a time by that.
+    // Not by infinities: the compiler makes a test of the value's class of that, and no loop takes several at a time by it.
     (v <= LARGEST) & (-LARGEST <= v)
 }
 

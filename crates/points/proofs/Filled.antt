@@ -61,7 +61,19 @@ implied true true true d e h = refl
 implied true true false true e h = absurd (false≢true (h refl))
 implied true true false false e h = refl
 
-module _ (cl : Float) (vs ss : List Float) (n : length ss ≡ length vs) where
+-- ---- the loop, and what it leaves
+
+-- after i points: the fronts of the columns are written, and `all` tells of the points so far
+pub record Columns (g : Plot) (lcl₀ : List Float) (out₀ : List Bool) (z₀ : List Float) (hasZ₀ : List Bool)
+    (ucl lcl : List Float) (out : List Bool) (z : List Float) (hasZ : List Bool) (all : Bool) (i : ℕ) : Type 0 where
+  pub of-ucl : Tabling (λ k. pointAt g k .ucl) (length (g .values)) (g .sigmas) ucl i
+  pub of-lcl : Tabling (λ k. pointAt g k .lcl) (length (g .values)) lcl₀ lcl i
+  pub of-out : Tabling (λ k. pointAt g k .outOfControl) (length (g .values)) out₀ out i
+  pub of-z : Tabling (λ k. pointAt g k .z) (length (g .values)) z₀ z i
+  pub of-has-z : Tabling (λ k. pointAt g k .hasZ) (length (g .values)) hasZ₀ hasZ i
+  pub of-all : Judged (λ k. firm (pointAt g k)) (length (g .values)) i all
+
+module _ (cl : Float) (vs ss : List Float) where
   abbrev g : Plot
   g = plotBy cl vs ss
 
@@ -74,78 +86,63 @@ module _ (cl : Float) (vs ss : List Float) (n : length ss ≡ length vs) where
       ∙ ap₂ _&&_ (ap every (tabulate-map finite vs nan)) (each-finite (λ k. pointAt g k .ucl) (length vs)))
       (each-finite (λ k. pointAt g k .lcl) (length vs))
 
-  sound-is : {centre all : Bool} → centre ≡ finite cl → all ≡ every (tabulate (λ k. firm (pointAt g k)) (length vs)) → (centre && all) ≡ sound g
+  sound-is : {centre all : Bool} → length ss ≡ length vs → centre ≡ finite cl → all ≡ every (tabulate (λ k. firm (pointAt g k)) (length vs)) → (centre && all) ≡ sound g
   unfolding sound
-  sound-is p q =
+  sound-is n p q =
       ap₂ _&&_ p (q ∙ all-firm)
       ∙ implied (finite cl) (allFinite vs) (allFinite ss) (allFinite (uppers g)) (allFinite (lowers g))
       (λ h. finite-sigmas cl ss (ap allFinite (sym (tabulate-map (upperOf cl) ss nan) ∙ ap (tabulate (λ i. upperOf cl (getD ss i nan))) n) ∙ h))
 
--- ---- the loop
+  module _ (lcl₀ : List Float) (out₀ : List Bool) (z₀ : List Float) (hasZ₀ : List Bool) where
+    -- each slice has an entry for each value
+    abbrev Long : Type 0
+    Long = (length ss ≡ length vs) × (length lcl₀ ≡ length vs) × (length out₀ ≡ length vs) × (length z₀ ≡ length vs) × (length hasZ₀ ≡ length vs)
 
--- after i points: the fronts of the columns are written, and `all` tells of the points so far
-pub record Columns (g : Plot) (lcl₀ : List Float) (out₀ : List Bool) (z₀ : List Float) (hasZ₀ : List Bool)
-    (ucl lcl : List Float) (out : List Bool) (z : List Float) (hasZ : List Bool) (all : Bool) (i : ℕ) : Type 0 where
-  pub of-ucl : Tabling (λ k. pointAt g k .ucl) (length (g .values)) (g .sigmas) ucl i
-  pub of-lcl : Tabling (λ k. pointAt g k .lcl) (length (g .values)) lcl₀ lcl i
-  pub of-out : Tabling (λ k. pointAt g k .outOfControl) (length (g .values)) out₀ out i
-  pub of-z : Tabling (λ k. pointAt g k .z) (length (g .values)) z₀ z i
-  pub of-has-z : Tabling (λ k. pointAt g k .hasZ) (length (g .values)) hasZ₀ hasZ i
-  pub of-all : Judged (λ k. firm (pointAt g k)) (length (g .values)) i all
+    pub columns-start : Long → Columns g lcl₀ out₀ z₀ hasZ₀ ss lcl₀ out₀ z₀ hasZ₀ true 0
+    columns-start long = record {
+      of-ucl = tabling-starts _ _ _ (omega (arith, long));
+      of-lcl = tabling-starts _ _ _ (omega (arith, long));
+      of-out = tabling-starts _ _ _ (omega (arith, long));
+      of-z = tabling-starts _ _ _ (omega (arith, long));
+      of-has-z = tabling-starts _ _ _ (omega (arith, long));
+      of-all = judged-starts _ _;
+    }
 
-module _ (cl : Float) (vs ss lcl₀ : List Float) (out₀ : List Bool) (z₀ : List Float) (hasZ₀ : List Bool) where
-  abbrev of-it : Plot
-  of-it = plotBy cl vs ss
+    module _ (ucl lcl : List Float) (out : List Bool) (z : List Float) (has : List Bool) (all : Bool) (i : ℕ)
+        (c : Columns g lcl₀ out₀ z₀ hasZ₀ ucl lcl out z has all i) where
+      pub columns-go-on : (upper lower standardized : Float) (finite-so : Bool) → i < length vs → upper ≡ upperOf cl (getD ucl i nan)
+          → lower ≡ lowerOf cl (getD ucl i nan) → standardized ≡ zOf (getD vs i nan) cl (getD ucl i nan)
+          → finite-so ≡ finite (getD vs i nan) && finite upper && finite lower
+          → Columns g lcl₀ out₀ z₀ hasZ₀ (set ucl i upper) (set lcl i lower) (set out i (beyond (getD vs i nan) upper lower)) (set z i standardized)
+          (set has i (hasZ (getD ucl i nan))) (all && finite-so) (i + 1)
+      columns-go-on upper lower standardized finite-so h u l s f =
+          let still = in-place _ _ _ _ _ (c .of-ucl) nan in
+          let up : upper ≡ pointAt g i .ucl = u ∙ ap (upperOf cl) still in
+          let low : lower ≡ pointAt g i .lcl = l ∙ ap (lowerOf cl) still in
+          record {
+            of-ucl = tabling-goes-on _ _ _ _ _ (c .of-ucl) upper h up;
+            of-lcl = tabling-goes-on _ _ _ _ _ (c .of-lcl) lower h low;
+            of-out = tabling-goes-on _ _ _ _ _ (c .of-out) _ h (ap₂ (beyond (getD vs i nan)) up low);
+            of-z = tabling-goes-on _ _ _ _ _ (c .of-z) standardized h (s ∙ ap (zOf (getD vs i nan) cl) still);
+            of-has-z = tabling-goes-on _ _ _ _ _ (c .of-has-z) _ h (ap hasZ still);
+            of-all = judged-next _ _ _ _ (c .of-all) finite-so h (f ∙ ap₂ (λ (x y : Float). finite (getD vs i nan) && finite x && finite y) up low);
+          }
 
-  -- each slice has an entry for each value
-  abbrev Long : Type 0
-  Long = (length ss ≡ length vs) × (length lcl₀ ≡ length vs) × (length out₀ ≡ length vs) × (length z₀ ≡ length vs) × (length hasZ₀ ≡ length vs)
-
-  pub columns-start : Long → Columns of-it lcl₀ out₀ z₀ hasZ₀ ss lcl₀ out₀ z₀ hasZ₀ true 0
-  columns-start long = record {
-    of-ucl = tabling-starts _ _ _ (omega (arith, long));
-    of-lcl = tabling-starts _ _ _ (omega (arith, long));
-    of-out = tabling-starts _ _ _ (omega (arith, long));
-    of-z = tabling-starts _ _ _ (omega (arith, long));
-    of-has-z = tabling-starts _ _ _ (omega (arith, long));
-    of-all = judged-starts _ _;
-  }
-
-  module _ (ucl lcl : List Float) (out : List Bool) (z : List Float) (has : List Bool) (all : Bool) (i : ℕ)
-      (c : Columns of-it lcl₀ out₀ z₀ hasZ₀ ucl lcl out z has all i) where
-    pub columns-go-on : (upper lower standardized : Float) (finite-so : Bool) → i < length vs → upper ≡ upperOf cl (getD ucl i nan)
-        → lower ≡ lowerOf cl (getD ucl i nan) → standardized ≡ zOf (getD vs i nan) cl (getD ucl i nan)
-        → finite-so ≡ finite (getD vs i nan) && finite upper && finite lower
-        → Columns of-it lcl₀ out₀ z₀ hasZ₀ (set ucl i upper) (set lcl i lower) (set out i (beyond (getD vs i nan) upper lower)) (set z i standardized)
-        (set has i (hasZ (getD ucl i nan))) (all && finite-so) (i + 1)
-    columns-go-on upper lower standardized finite-so h u l s f =
-        let still = in-place _ _ _ _ _ (c .of-ucl) nan in
-        let up : upper ≡ pointAt of-it i .ucl = u ∙ ap (upperOf cl) still in
-        let low : lower ≡ pointAt of-it i .lcl = l ∙ ap (lowerOf cl) still in
-        record {
-          of-ucl = tabling-goes-on _ _ _ _ _ (c .of-ucl) upper h up;
-          of-lcl = tabling-goes-on _ _ _ _ _ (c .of-lcl) lower h low;
-          of-out = tabling-goes-on _ _ _ _ _ (c .of-out) _ h (ap₂ (beyond (getD vs i nan)) up low);
-          of-z = tabling-goes-on _ _ _ _ _ (c .of-z) standardized h (s ∙ ap (zOf (getD vs i nan) cl) still);
-          of-has-z = tabling-goes-on _ _ _ _ _ (c .of-has-z) _ h (ap hasZ still);
-          of-all = judged-next _ _ _ _ (c .of-all) finite-so h (f ∙ ap₂ (λ (x y : Float). finite (getD vs i nan) && finite x && finite y) up low);
-        }
-
-    pub columns-end : {centre : Bool} → Long → length vs ≤ i → centre ≡ finite cl
-        → ((centre && all) ≡ sound of-it) × ((ucl ≡ uppers of-it) × ((lcl ≡ lowers of-it) × ((out ≡ outs of-it) × ((z ≡ zs of-it) × (has ≡ hasZs of-it)))))
-    columns-end long h e = (
-      sound-is cl vs ss (long .0) e (judged-all _ _ _ _ (c .of-all) h),
-      (
-        tabling-all _ _ _ _ _ (c .of-ucl) (omega (arith, long)) h,
+      pub columns-end : {centre : Bool} → Long → length vs ≤ i → centre ≡ finite cl
+          → ((centre && all) ≡ sound g) × ((ucl ≡ uppers g) × ((lcl ≡ lowers g) × ((out ≡ outs g) × ((z ≡ zs g) × (has ≡ hasZs g)))))
+      columns-end long h e = (
+        sound-is (long .0) e (judged-all _ _ _ _ (c .of-all) h),
         (
-          tabling-all _ _ _ _ _ (c .of-lcl) (omega (arith, long)) h,
+          tabling-all _ _ _ _ _ (c .of-ucl) (omega (arith, long)) h,
           (
-            tabling-all _ _ _ _ _ (c .of-out) (omega (arith, long)) h,
-            (tabling-all _ _ _ _ _ (c .of-z) (omega (arith, long)) h, tabling-all _ _ _ _ _ (c .of-has-z) (omega (arith, long)) h),
+            tabling-all _ _ _ _ _ (c .of-lcl) (omega (arith, long)) h,
+            (
+              tabling-all _ _ _ _ _ (c .of-out) (omega (arith, long)) h,
+              (tabling-all _ _ _ _ _ (c .of-z) (omega (arith, long)) h, tabling-all _ _ _ _ _ (c .of-has-z) (omega (arith, long)) h),
+            ),
           ),
         ),
-      ),
-    )
+      )
 
 -- a column has as many entries as there are points
 pub column-length : {A : Type 0} (f : Point → A) (g : Plot) → length (column f g) ≡ length (g .values)

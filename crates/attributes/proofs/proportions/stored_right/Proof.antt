@@ -3,9 +3,9 @@ use mathlib.Core.Path.{sym, _∙_}
 use Prim.Native.Nat.{_-_, _^_}
 use lib.Dec.{ltb, leb·suc-suc}
 use lib.ListN.{getD}
+use Rattle.laws.proofs.Judged.{Judged, judged-starts, judged-all}
 use Rattle.attributes.specs.Records.{sampleP}
 use Rattle.attributes.specs.Evaluating.{right, storedRightP}
-use Rattle.laws.proofs.Judged.{Judged, judged-starts, judged-all}
 use Rattle.attributes.proofs.Samples.{judged-bits}
 use borrow.Author.Needs.{needs}
 use Rattle.attributes.proofs.proportions.stored_right.Statement.{statement}

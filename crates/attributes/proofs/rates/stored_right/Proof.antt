@@ -2,9 +2,9 @@
 use Prim.Native.Nat.{_-_}
 use lib.Ieee.{nan}
 use lib.ListN.{getD}
+use Rattle.laws.proofs.Judged.{Judged, judged-starts, judged-next, judged-all}
 use Rattle.attributes.specs.Records.{sampleU}
 use Rattle.attributes.specs.Evaluating.{right, storedRightU}
-use Rattle.laws.proofs.Judged.{Judged, judged-starts, judged-next, judged-all}
 use borrow.Author.Needs.{needs}
 use Rattle.attributes.proofs.rates.stored_right.Statement.{statement}
 use Rattle.attributes.proofs.rates.stored_right.Tie as tie
