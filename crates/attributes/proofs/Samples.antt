@@ -1,32 +1,42 @@
 -- A sample by its own tests, and by the bits of its counts. Assumes nothing.
 use mathlib.Core.Path.{_≡_, refl, sym, ap, ap₂, _∙_, subst}
 use mathlib.Core.Bool.{Bool, true, false, not, _&&_, _||_}
-use mathlib.Core.List.{[], _∷_}
-use Prim.Native.Nat.{ℕ, _+_, _*_, _/_, _%_, _^_, _≤_, _<_, max}
+use mathlib.Core.List.{List, [], _∷_}
+use Prim.Native.Nat.{ℕ, suc, _+_, _/_, _%_, _^_, _≤_, _<_}
 use native.Mathlib.Omega.{arith}
-use borrow.Author.Tests.{leb-true, leb-false, ltb-true, ltb-false, eqb-true, eqb-false}
+use borrow.Author.Tests.{ltb-true, ltb-false, eqb-true, eqb-false}
 use lib.Arith.{bin-ind}
 use lib.Bits.{bitOr, or-step, or-lt, or-comm}
-use lib.Dec.{leb, ltb, eqb}
+use lib.Dec.{ltb, eqb, eqb·suc-zero}
+use lib.Ieee.{Float}
 use Rattle.laws.specs.Refusals.{firstOf}
 use Rattle.laws.proofs.Judged.{Judged, judged-next}
-use Rattle.attributes.specs.Records.{sampleP}
+use Rattle.attributes.specs.Records.{rateAllowed, tooLarge, sampleP, sampleU}
 use Rattle.attributes.specs.Evaluating.{right}
 
--- ---- a sample's own tests as one
+-- ---- a sample's own tests, one after the other
 
-none-of-3 : (a b c : Bool) → not (a || b || c) ≡ eqb (firstOf ((a, 16) ∷ (b, 17) ∷ (c, 18) ∷ []) 0) 0
+first-test : (a : Bool) (n : ℕ) (rest : List (Bool × ℕ)) → right ((a, suc n) ∷ rest) ≡ not a && right rest
 unfolding firstOf
-none-of-3 true b c = refl
-none-of-3 false true c = refl
-none-of-3 false false true = refl
-none-of-3 false false false = refl
+first-test true n rest = eqb·suc-zero n
+first-test false n rest = refl
 
-pub none-of-2 : (a b : Bool) → not (a || b) ≡ eqb (firstOf ((a, 16) ∷ (b, 19) ∷ []) 0) 0
+right-P : (d n : ℕ) → right (sampleP d n) ≡ not (tooLarge d || tooLarge n) && (not (eqb n 0) && (not (ltb n d) && true))
 unfolding firstOf
-none-of-2 true b = refl
-none-of-2 false true = refl
-none-of-2 false false = refl
+right-P d n =
+    first-test (tooLarge d || tooLarge n) 15 ((eqb n 0, 17) ∷ (ltb n d, 18) ∷ [])
+    ∙ ap (λ (b : Bool). not (tooLarge d || tooLarge n) && b) (first-test (eqb n 0) 16 ((ltb n d, 18) ∷ []) ∙ ap (λ (b : Bool). not (eqb n 0) && b) (first-test (ltb n d) 17 []))
+
+pub right-U : (d : ℕ) (u : Float) → not (tooLarge d || not (rateAllowed u)) ≡ right (sampleU d u)
+unfolding firstOf
+right-U d u =
+    neither (tooLarge d) (not (rateAllowed u))
+    ∙ sym (first-test (tooLarge d) 15 ((not (rateAllowed u), 19) ∷ []) ∙ ap (λ (b : Bool). not (tooLarge d) && b) (first-test (not (rateAllowed u)) 18 []))
+  where
+    neither : (a b : Bool) → not (a || b) ≡ not a && (not b && true)
+    neither true b = refl
+    neither false true = refl
+    neither false false = refl
 
 -- ---- numbers together have no bit that none of them has
 
@@ -62,22 +72,22 @@ said x c f g = by (ltb x (2 ^ 32)) c (ltb-true x (2 ^ 32)) (ltb-false x (2 ^ 32)
     by false true h i j k = refl
     by false false h i j k = absurd (omega (arith, i refl, k refl))
 
-module _ (d n rest less : ℕ) (in-rest : rest < 2 ^ 64) (in-less : less < 2 ^ 64) (r : (rest + d) % 2 ^ 64 ≡ n) (l : (less + 1) % 2 ^ 64 ≡ n) where
-  large : (x : ℕ) → ltb x (2 ^ 32) ≡ not (ltb 4294967295 x)
-  large x = said x (ltb 4294967295 x) (λ h. omega (arith, ltb-true 4294967295 x h)) (λ h. omega (arith, ltb-false 4294967295 x h))
+large : (x : ℕ) → ltb x (2 ^ 32) ≡ not (tooLarge x)
+large x = said x (tooLarge x) (λ h. omega (arith, ltb-true 4294967295 x h)) (λ h. omega (arith, ltb-false 4294967295 x h))
 
+module _ (d n rest less : ℕ) (in-rest : rest < 2 ^ 64) (in-less : less < 2 ^ 64) (r : (rest + d) % 2 ^ 64 ≡ n) (l : (less + 1) % 2 ^ 64 ≡ n) where
   none-wraps : ltb d (2 ^ 32) && ltb n (2 ^ 32) && ltb rest (2 ^ 32) && ltb less (2 ^ 32)
-      ≡ not ((ltb 4294967295 d || ltb 4294967295 n) || eqb n 0 || ltb n d)
-  none-wraps = rw (large d, large n) (by (ltb 4294967295 d) (ltb 4294967295 n) (ltb-false 4294967295 d) (ltb-false 4294967295 n))
+      ≡ not (tooLarge d || tooLarge n) && (not (eqb n 0) && (not (ltb n d) && true))
+  none-wraps = rw (large d, large n) (by (tooLarge d) (tooLarge n) (ltb-false 4294967295 d) (ltb-false 4294967295 n))
     where
-      neither : (z w : Bool) → not w && not z ≡ not (z || w)
-      neither true true = refl
-      neither true false = refl
-      neither false true = refl
-      neither false false = refl
+      other-way : (z w : Bool) → not w && not z ≡ not z && (not w && true)
+      other-way true true = refl
+      other-way true false = refl
+      other-way false true = refl
+      other-way false false = refl
 
       by : (a b : Bool) → (a ≡ false → d ≤ 4294967295) → (b ≡ false → n ≤ 4294967295)
-          → not a && not b && ltb rest (2 ^ 32) && ltb less (2 ^ 32) ≡ not ((a || b) || eqb n 0 || ltb n d)
+          → not a && not b && ltb rest (2 ^ 32) && ltb less (2 ^ 32) ≡ not (a || b) && (not (eqb n 0) && (not (ltb n d) && true))
       by true b f g = refl
       by false true f g = refl
       by false false f g =
@@ -85,11 +95,11 @@ module _ (d n rest less : ℕ) (in-rest : rest < 2 ^ 64) (in-less : less < 2 ^ 6
           (said rest (ltb n d)
           (λ h. omega (arith, ltb-true n d h, f refl, g refl, r, in-rest)) (λ h. omega (arith, ltb-false n d h, f refl, g refl, r, in-rest)))
           (said less (eqb n 0) (λ h. omega (arith, eqb-true n 0 h, l, in-less)) (λ h. omega (arith, eqb-false n 0 h, g refl, l, in-less)))
-          ∙ neither (eqb n 0) (ltb n d)
+          ∙ other-way (eqb n 0) (ltb n d)
 
   pub bits-tell : ltb (bitOr (bitOr (bitOr d n) rest) less) (2 ^ 32) ≡ right (sampleP d n)
   bits-tell =
       or-within 32 (bitOr (bitOr d n) rest) less
       ∙ ap (λ (b : Bool). b && ltb less (2 ^ 32)) (or-within 32 (bitOr d n) rest ∙ ap (λ (b : Bool). b && ltb rest (2 ^ 32)) (or-within 32 d n))
       ∙ none-wraps
-      ∙ none-of-3 _ _ _
+      ∙ sym (right-P d n)

@@ -1,4 +1,4 @@
-// The points of both charts, once the samples' sizes are f64s. Counts fit a u32, whose cast takes least.
+// The points of both charts, once the samples' sizes are f64s.
 use super::Evaluated;
 use super::Refusal;
 use points::Plotted;
@@ -14,6 +14,7 @@ ghost use Rattle.points.specs.Steps.{settled};
 ghost use Rattle.attributes.specs.Evaluating.{evaluated, answerFor, valuesOf, plotOf};
 ghost use Rattle.attributes.specs.Steps.{variancesOf, rootsOf, SmallTo};
 
+// Counts that 14 does not refuse fit a u32, whose cast takes least.
 fn fill_values(n: usize, counts: &[u64], sizes: &[f64], out: &mut [f64])
     requires { ⌜ (n ≤ length (now counts)) × (n ≤ length (now sizes)) × (n ≤ length (now out)) × SmallTo n (now counts) ⌝ }
     ensures { λ _. ⌜ now (out .exit) ≡ atFront (valuesOf (now (counts .entry)) (take n (now (sizes .entry)))) (now (out .entry)) ⌝ }

@@ -110,7 +110,7 @@ pub fn variance(cl: f64) -> f64
     cl * (1.0 - cl)
 }
 
-// The sizes as f64s, in front of a slice. They fit a u32, whose cast takes least.
+// The sizes as f64s, in front of a slice. Those that 14 does not refuse fit a u32, whose cast takes least.
 pub fn fill_sizes(n: usize, sizes: &[u64], out: &mut [f64])
     requires { ⌜ (n ≤ length (now sizes)) × (n ≤ length (now out)) × SmallTo n (now sizes) ⌝ }
     ensures { λ _. ⌜ now (out .exit) ≡ atFront (sizesP n (now (sizes .entry))) (now (out .entry)) ⌝ }

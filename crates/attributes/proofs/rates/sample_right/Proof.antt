@@ -2,7 +2,7 @@
 use mathlib.Core.Path.{ap, _∙_}
 use mathlib.Core.Bool.{Bool, not, _||_}
 use Rattle.attributes.specs.Records.{tooLarge}
-use Rattle.attributes.proofs.Samples.{none-of-2}
+use Rattle.attributes.proofs.Samples.{right-U}
 use borrow.Author.Needs.{needs}
 use Rattle.attributes.proofs.rates.sample_right.Statement.{statement}
 use Rattle.attributes.proofs.rates.sample_right.Tie as tie
@@ -14,7 +14,7 @@ returns : tie.Need-returns
 returns c =
     let allowed = c .allowed in
     let args = c .before .args in
-    ap (λ (b : Bool). not (tooLarge (args .damaged) || not b)) (allowed .ensures) ∙ none-of-2 _ _
+    ap (λ (b : Bool). not (tooLarge (args .damaged) || not b)) (allowed .ensures) ∙ right-U (args .damaged) (args .units)
 
 pub sample-right-spec : {M : Type 1} → statement M
 sample-right-spec = tie.close (tie.spec allowed-requires returns)
