@@ -4,15 +4,15 @@ use mathlib.Core.Path.{_≡_, refl, sym, ap, ap₂, _∙_}
 use mathlib.Core.Bool.{Bool, true, false, _&&_, cond, and-false}
 use mathlib.Core.List.{List, [], _∷_}
 use Prim.Native.Nat.{ℕ, zero, suc, _≤_, _<_}
-use native.Mathlib.Nat.{le-of-suc-le-suc}
 use native.Mathlib.Omega.{arith}
 use borrow.Author.Tests.{lt-ltb}
 use lib.Dec.{eqb}
-use lib.Ieee.{Float, nan}
+use lib.Ieee.{Float}
 use lib.ListN.{length, take, getD}
 use Rattle.laws.specs.Bools.{every}
 use Rattle.laws.proofs.Bools.{both}
 use Rattle.floats.specs.Finite.{finite, allFinite}
+use Rattle.floats.proofs.AllFinite.{finite-at}
 use Rattle.stops.specs.Stops.{stopsWrong, mainPoints}
 use Rattle.sets.specs.Sets.{tests, testOf, has}
 use Rattle.rules.specs.Tests.{window}
@@ -25,12 +25,6 @@ use Rattle.evidence.specs.Evidence.{nothing, shownAt, evidenceOf}
 use Rattle.evidence.proofs.Behind.{stops-are-wrong}
 
 -- ---- finite values are finite in any window
-
-finite-at : (values : List Float) → allFinite values ≡ true → (i : ℕ) → i < length values → finite (getD values i nan) ≡ true
-unfolding allFinite every
-finite-at [] e i h = absurd (omega arith)
-finite-at (v ∷ values) e zero h = both (finite v) (allFinite values) e .0
-finite-at (v ∷ values) e (suc i) h = finite-at values (both (finite v) (allFinite values) e .1) i (le-of-suc-le-suc h)
 
 finite-newest : (cut : ℕ → Bool) (values : List Float) → allFinite values ≡ true → (n : ℕ) → n ≤ length values → allFinite (newestFirst cut values n) ≡ true
 unfolding newestFirst allFinite every

@@ -8,7 +8,7 @@ use native.Mathlib.Nat.{div-one, zero-div, mod-lt, zero-lt-suc, pow-suc, min-le-
 use native.Mathlib.Numerals.{one-add}
 use lib.Dec.{eqb}
 use lib.ListN.{length, getD, length-append, length-map}
-use lib.Bits.{bitAnd, bitOr, and-step, and-shr, and-mask, or-step, or-shr, or-shifted-r}
+use lib.Bits.{bitAnd, bitOr, and-comm, and-step, and-shr, and-mask, or-step, or-shr, or-shifted-r}
 use lib.Pow.{shr-shr, shl-exact}
 use Rattle.laws.specs.Bools.{one}
 use Rattle.laws.specs.Bits.{hasBit, fromBits}
@@ -57,6 +57,11 @@ has-and a b k =
     ap (λ (n : ℕ). eqb (n % 2) 1) (and-shr a b k)
     ∙ ap (λ (n : ℕ). eqb n 1) (and-odd (a / 2 ^ k) (b / 2 ^ k))
     ∙ min-digits (a / 2 ^ k % 2) (b / 2 ^ k % 2) (odd-lt (a / 2 ^ k)) (odd-lt (b / 2 ^ k))
+
+-- a bit of what a mask leaves; of a mask that is written out it can be seen whether it has the bit
+pub has-mask : (n m k : ℕ) → hasBit (bitAnd n m) k ≡ (eqb (m / 2 ^ k % 2) 1 && hasBit n k)
+unfolding hasBit
+has-mask n m k = ap (λ (x : ℕ). hasBit x k) (and-comm n m) ∙ has-and m n k
 
 or-odd : (x y : ℕ) → bitOr x y % 2 ≡ max (x % 2) (y % 2)
 or-odd x y = omega (arith, or-step x y, max-digits (x % 2) (y % 2) (odd-lt x) (odd-lt y) .1)

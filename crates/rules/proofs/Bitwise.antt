@@ -3,14 +3,14 @@
 use mathlib.Core.Path.{_≡_, refl, sym, ap, ap₂, _∙_}
 use mathlib.Core.Bool.{Bool, true, false, _&&_, _||_, Bool·beq, and-true, and-assoc, or-false, or-self}
 use mathlib.Core.List.{List, [], _∷_}
-use Prim.Native.Nat.{ℕ, _/_, _%_, _^_, _<_}
+use Prim.Native.Nat.{ℕ, _/_, _^_, _<_}
 use native.Mathlib.Omega.{arith}
-use lib.Bits.{bitAnd, bitOr, and-comm, and-le-r, or-lt}
-use lib.Dec.{leb, eqb}
+use lib.Bits.{bitAnd, bitOr, and-le-r, or-lt}
+use lib.Dec.{leb}
 use Rattle.laws.specs.Bools.{every, count}
 use Rattle.laws.specs.Bits.{hasBit, fromBits}
 use Rattle.laws.proofs.Bools.{both}
-use Rattle.laws.proofs.Bits.{has-and, has-or, has-shr}
+use Rattle.laws.proofs.Bits.{has-and, has-mask, has-or, has-shr}
 use Rattle.laws.proofs.FirstBits.{bits-again}
 use Rattle.sets.specs.Sets.{tests, bitOf}
 use Rattle.rules.specs.Columns.{first, byTurns, some, judge, ruleOf, readOff}
@@ -77,11 +77,6 @@ nine : {a0 a1 a2 a3 a4 a5 a6 a7 a8 b0 b1 b2 b3 b4 b5 b6 b7 b8 : Bool}
     → a0 ≡ b0 → a1 ≡ b1 → a2 ≡ b2 → a3 ≡ b3 → a4 ≡ b4 → a5 ≡ b5 → a6 ≡ b6 → a7 ≡ b7 → a8 ≡ b8
     → a0 ∷ a1 ∷ a2 ∷ a3 ∷ a4 ∷ a5 ∷ a6 ∷ a7 ∷ a8 ∷ [] ≡ b0 ∷ b1 ∷ b2 ∷ b3 ∷ b4 ∷ b5 ∷ b6 ∷ b7 ∷ b8 ∷ []
 nine e0 e1 e2 e3 e4 e5 e6 e7 e8 = cc
-
--- a bit of what a mask leaves; of a mask that is written out it can be seen whether it has the bit
-has-mask : (n m k : ℕ) → hasBit (bitAnd n m) k ≡ (eqb (m / 2 ^ k % 2) 1 && hasBit n k)
-unfolding hasBit
-has-mask n m k = ap (λ (x : ℕ). hasBit x k) (and-comm n m) ∙ has-and m n k
 
 less : (n m : ℕ) → m < 512 → bitAnd n m < 512
 less n m h = omega (arith, and-le-r n m)

@@ -28,15 +28,15 @@ struct Widths {
     two: f64,
 }
 
-// The lines that the tests compare with: the limits, and one and two sigma above and below the centre line.
-struct Lines {
-    ucl: f64,
-    cl: f64,
-    lcl: f64,
-    above1: f64,
-    below1: f64,
-    above2: f64,
-    below2: f64,
+/// The lines that the tests compare with: the limits, and one and two sigma above and below the centre line.
+pub struct Lines {
+    pub ucl: f64,
+    pub cl: f64,
+    pub lcl: f64,
+    pub above1: f64,
+    pub below1: f64,
+    pub above2: f64,
+    pub below2: f64,
 }
 
 // The third column of 01's table.
@@ -125,8 +125,12 @@ fn widths_of(l: Limits) -> Widths
     Widths { one: s, two: t }
 }
 
-// The lines of the limits: the same widths serve below the centre.
-fn lines_of(l: Limits) -> Lines
+/// The lines of the limits: the same widths serve below the centre.
+///
+/// Refuses nothing.
+///
+/// Of `Limits { ucl: 28.0, cl: 25.0, lcl: 20.0 }` one sigma above the centre line is 26.0, and one below it 24.0.
+pub fn lines_of(l: Limits) -> Lines
     ensures { λ r. ⌜ r ≡ linesOf l ⌝ }
 {
     let w = widths_of(l);
