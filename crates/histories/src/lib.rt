@@ -12,6 +12,9 @@ ghost use Rattle.rules.specs.Marking.{number};
 ghost use Rattle.histories.specs.Lanes.{pushed, held, after, fresh};
 ghost use Rattle.histories.specs.Taking.{answered, taken, unchanged, takeValue};
 
+// How many values the longest window has: the number of values seen is held at it.
+const LONGEST: u16 = 15;
+
 /// What is kept of a lane between two values, in 32 bytes: the last value; for each zone and each step direction a history,
 /// which has for each of the last sixteen values a bit that says whether it lies there, or came by such a step, the newest in
 /// bit 0; and how many values were seen, held at 15.
@@ -87,10 +90,10 @@ fn push(h: u16, b: bool) -> u16
 fn hold(seen: u16) -> u16
     ensures { λ r. ⌜ r ≡ held (suc seen) ⌝ }
 {
-    if seen < 15 {
+    if seen < LONGEST {
         return seen + 1;
     }
-    15
+    LONGEST
 }
 
 impl Lane {
@@ -175,10 +178,11 @@ impl Lane {
     pub fn take(self, value: f64, limits: Limits, set: RuleSet) -> Taken
         ensures { λ r. ⌜ taken r ≡ takeValue limits (set .mask) self value ⌝ }
     {
+        let sound = rules::finite_limits(limits);
         if RuleSet::ALL < set.mask {
             return self.refuse(Refusal::SetTooLarge);
         }
-        if !rules::finite_limits(limits) {
+        if !sound {
             return self.refuse(Refusal::NotFinite);
         }
         if !floats::is_finite(value) {

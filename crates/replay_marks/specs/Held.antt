@@ -21,3 +21,8 @@ pub record Held (stored : List ℕ) (stopped : Bool) (number n : ℕ) (marks : L
   pub taken : (stopped || eqb number 0) ≡ true
   pub answer : inGroups (answerBytes stopped number (take (written number n) marks)) ≡ stored
   pub rest : allAre marks (written number n) 0xffff ≡ true
+
+-- so, whichever number is ours
+pub record SomeHeld (stored : List ℕ) (stopped : Bool) (n : ℕ) (marks : List ℕ) : Type 0 where
+  pub number : ℕ
+  pub held : Held stored stopped number n marks

@@ -1,8 +1,9 @@
 // Replays a list of marks cases (oracle/FORMAT.md) from standard input: marks the values of each case afresh, with its
-// stops where it has any, and holds the answer byte for byte and the entries past the marks to what is stored. Writes a
-// line for each case that it finds otherwise, and last how many cases there are and how many of them differ; or, where the
+// stops where it has any, all at once and then one by one, and holds either answer byte for byte and the entries past the
+// marks to what is stored. Writes a line for each case that it finds otherwise, and last how many cases there are and how many of them differ; or, where the
 // bytes are no list, last a line that says at which byte and why.
 mod answer;
+mod lanes;
 
 use libc::STDIN_FILENO;
 use lists::Item;
@@ -18,7 +19,7 @@ ghost use lib.ListN.{length};
 ghost use Rattle.lists.specs.Outcomes.{OnlyIf, stretch};
 ghost use Rattle.rules.specs.Terms.{under};
 ghost use Rattle.rules.specs.Marking.{answerOf};
-ghost use Rattle.replay_marks.specs.Held.{Held, written};
+ghost use Rattle.replay_marks.specs.Held.{Held, SomeHeld, written};
 
 // The tags of a marks case and of one with stops.
 const MARKS_CASE: u16 = 1;
@@ -97,8 +98,27 @@ fn judge(
     hold(list, at, next, terms.stopped, number, values.len(), marks)
 }
 
+// Marks the values one by one, and holds the answer to the one stored from `at` to `next`.
+fn judge_lane(
+    list: &[u8],
+    at: usize,
+    next: usize,
+    terms: Terms,
+    stops: &[usize],
+    values: &[f64],
+    marks: &mut [u16],
+) -> Outcome
+    requires { ⌜ length (now marks) ≡ length (now values) + 4 ⌝ }
+    ensures { λ r. ⌜ OnlyIf (SomeHeld (stretch at next (now (list .entry))) (terms .stopped) (length (now (values .entry))) (now (marks .exit))) r ⌝ }
+{
+    let limits = terms.limits;
+    let set = terms.set;
+    let number = lanes::mark(values, stops, terms.moving, limits, set, marks);
+    hold(list, at, next, terms.stopped, number, values.len(), marks)
+}
+
 // Replays a case from its values on, which stand at the place `at`. There is room for the values, and for the marks with
-// `SPARE` entries more.
+// `SPARE` entries more, of either engine.
 fn replay_values(
     list: &[u8],
     at: usize,
@@ -106,8 +126,9 @@ fn replay_values(
     stops: &[usize],
     values: &mut [f64],
     marks: &mut [u16],
+    singly: &mut [u16],
 ) -> Replayed
-    requires { ⌜ length (now marks) ≡ length (now values) + 4 ⌝ }
+    requires { ⌜ (length (now marks) ≡ length (now values) + 4) × (length (now singly) ≡ length (now values) + 4) ⌝ }
 {
     let answer_at = match lists::read_floats(list, at, Item::Value, values) {
         Passed::Next(next) => next,
@@ -118,6 +139,10 @@ fn replay_values(
         Passed::Fault(fault) => return Replayed::Fault(fault),
     };
     let outcome = judge(list, answer_at, next, terms, stops, values, marks);
+    if let Outcome::Same = outcome {
+        let outcome = judge_lane(list, answer_at, next, terms, stops, values, singly);
+        return Replayed::Case { outcome, next };
+    }
     Replayed::Case { outcome, next }
 }
 
@@ -131,6 +156,7 @@ fn replay_count(list: &[u8], at: usize, terms: Terms, stops: &[usize]) -> Replay
     let end = n + SPARE;
     let mut values = [0.0f64; 4096];
     let mut marks = [UNTOUCHED; 4100];
+    let mut singly = [UNTOUCHED; 4100];
     replay_values(
         list,
         count.next,
@@ -138,6 +164,7 @@ fn replay_count(list: &[u8], at: usize, terms: Terms, stops: &[usize]) -> Replay
         stops,
         &mut values[0..n],
         &mut marks[0..end],
+        &mut singly[0..end],
     )
 }
 

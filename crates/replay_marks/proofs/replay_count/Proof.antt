@@ -42,6 +42,15 @@ part-marks-start c = search needs
 part-marks-end : tie.Need-part-marks-end
 part-marks-end c = omega (arith, subst (AtMost 4096) (c .before .before .before .count .given .1) (c .before .before .before .before .before .read-small .ensures .1))
 
+sub-replay-values-3 : tie.Need-sub-replay-values-3
+sub-replay-values-3 c = search needs
+
+part-singly-start : tie.Need-part-singly-start
+part-singly-start c = search needs
+
+part-singly-end : tie.Need-part-singly-end
+part-singly-end c = omega (arith, subst (AtMost 4096) (c .before .before .before .before .count .given .1) (c .before .before .before .before .before .before .read-small .ensures .1))
+
 replay-values-requires : tie.Need-replay-values-requires
 replay-values-requires c κs = search needs
 
@@ -64,5 +73,8 @@ replay-count-spec =
     sub-replay-values-2
     part-marks-start
     part-marks-end
+    sub-replay-values-3
+    part-singly-start
+    part-singly-end
     replay-values-requires
     returns-2)

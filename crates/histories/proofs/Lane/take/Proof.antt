@@ -16,21 +16,21 @@ use Rattle.histories.proofs.Lane.take.Tie as tie
 
 returns : tie.Need-returns
 returns c =
-    let a = c .before .before .before .args in
+    let a = c .before .before .before .before .args in
     c .refuse .ensures ∙ sym (set-refused (a .limits) (a .set .mask) (a .self) (a .value) (c .before .if1 .taken))
 
 returns-2 : tie.Need-returns-2
 returns-2 c =
     let a = c .before .before .before .before .before .args in
-    let no : finiteLimits (a .limits) ≡ false = sym (c .before .before .finite-limits .ensures) ∙ not-true _ (c .before .if2 .taken) in
-    c .refuse2 .ensures ∙ sym (limits-refused (a .limits) (a .set .mask) (a .self) (a .value) (c .before .before .before .if1 .left) no)
+    let unsound : finiteLimits (a .limits) ≡ false = sym (c .before .before .before .before .finite-limits .ensures) ∙ not-true _ (c .before .if2 .taken) in
+    c .refuse2 .ensures ∙ sym (limits-refused (a .limits) (a .set .mask) (a .self) (a .value) (c .before .before .if1 .left) unsound)
 
 returns-3 : tie.Need-returns-3
 returns-3 c =
     let a = c .before .before .before .before .before .before .before .args in
-    let sound : finiteLimits (a .limits) ≡ true = sym (c .before .before .before .before .finite-limits .ensures) ∙ not-false _ (c .before .before .before .if2 .left) in
-    let no : finite (a .value) ≡ false = sym (c .before .before .is-finite .ensures) ∙ not-true _ (c .before .if3 .taken) in
-    c .refuse3 .ensures ∙ sym (value-refused (a .limits) (a .set .mask) (a .self) (a .value) (c .before .before .before .before .before .if1 .left) sound no)
+    let sound : finiteLimits (a .limits) ≡ true = sym (c .before .before .before .before .before .before .finite-limits .ensures) ∙ not-false _ (c .before .before .before .if2 .left) in
+    let unsound : finite (a .value) ≡ false = sym (c .before .before .is-finite .ensures) ∙ not-true _ (c .before .if3 .taken) in
+    c .refuse3 .ensures ∙ sym (value-refused (a .limits) (a .set .mask) (a .self) (a .value) (c .before .before .before .before .if1 .left) sound unsound)
 
 marks-requires : tie.Need-marks-requires
 unfolding after
@@ -39,19 +39,19 @@ marks-requires c κs = rw (c .after .ensures) (min-le-right _ 15)
 returns-4 : tie.Need-returns-4
 returns-4 c =
     let a = c .before .before .before .before .before .before .before .before .before .args in
-    let sound : finiteLimits (a .limits) ≡ true = sym (c .before .before .before .before .before .before .finite-limits .ensures) ∙ not-false _ (c .before .before .before .before .before .if2 .left) in
+    let sound : finiteLimits (a .limits) ≡ true = sym (c .before .before .before .before .before .before .before .before .finite-limits .ensures) ∙ not-false _ (c .before .before .before .before .before .if2 .left) in
     let is : finite (a .value) ≡ true = sym (c .before .before .before .before .is-finite .ensures) ∙ not-false _ (c .before .before .before .if3 .left) in
     ap (λ (m : ℕ). (0, m, c .before .after .result)) (c .marks .ensures)
     ∙ ap (marked (a .set .mask)) (c .before .after .ensures ∙ ap (λ (l : Lines). after l (a .self) (a .value)) (c .before .before .lines-of .ensures))
-    ∙ sym (value-taken (a .limits) (a .set .mask) (a .self) (a .value) (c .before .before .before .before .before .before .before .if1 .left) sound is)
+    ∙ sym (value-taken (a .limits) (a .set .mask) (a .self) (a .value) (c .before .before .before .before .before .before .if1 .left) sound is)
 
 pub take-spec : {M : Type 1} → statement M
 take-spec =
     tie.close
     (tie.spec
     (λ c κs. search needs)
-    returns
     (λ c κs. search needs)
+    returns
     (λ c κs. search needs)
     returns-2
     (λ c κs. search needs)
