@@ -7,6 +7,7 @@ mod cases;
 mod check;
 mod format;
 mod judge;
+mod lanes;
 mod random;
 mod report;
 mod scope;
@@ -25,7 +26,7 @@ use std::io::{Read, Write};
 use std::process::ExitCode;
 
 const USAGE: &str =
-    "usage: oracle list PART | fresh PART COUNT SEED PREFIX | check | pick K | smaller | show | sheets | report
+    "usage: oracle list PART | fresh PART COUNT SEED PREFIX | check | pick K | smaller | show | sheets | lanes | report
 PART is marks, charts, attributes or reports; check, pick, smaller and show read a list from standard input, report a flow file.
 fresh writes PREFIX0, PREFIX1, ..";
 
@@ -62,12 +63,15 @@ fn run(words: &[&str]) -> Result<ExitCode, String> {
             Ok(ExitCode::SUCCESS)
         }
         ["report"] => put(&report::text(&get_bytes()?)),
-        ["sheets"] => {
-            println!("{}", trials::line());
-            Ok(ExitCode::SUCCESS)
-        }
+        ["sheets"] => say(trials::line()),
+        ["lanes"] => say(lanes::line()),
         _ => Err(USAGE.to_string()),
     }
+}
+
+fn say(line: String) -> Result<ExitCode, String> {
+    println!("{line}");
+    Ok(ExitCode::SUCCESS)
 }
 
 fn part_named(name: &str) -> Result<Part, String> {
