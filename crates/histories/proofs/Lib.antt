@@ -4,3 +4,4 @@ pub mod Marks
 pub mod Answers
 pub mod Patterns
 pub mod Runs
+mod Examples

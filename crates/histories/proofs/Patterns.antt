@@ -1,9 +1,9 @@
 -- What a lane's marks mean: after any values from a fresh start they are those of 01's patterns, for every test at once, by the reading of
 -- tests off columns that marking rests on too; and the last fifteen values decide. Assumes nothing.
-use mathlib.Core.Path.{_≡_, refl, sym, ap, _∙_, fun-ext}
+use mathlib.Core.Path.{_≡_, refl, sym, ap, ap₂, _∙_, fun-ext}
 use mathlib.Core.Bool.{Bool, true, false, _&&_}
 use mathlib.Core.List.{List, [], _∷_}
-use Prim.Native.Nat.{ℕ, zero, suc}
+use Prim.Native.Nat.{ℕ, zero, suc, _≤_}
 use native.Mathlib.Omega.{arith}
 use borrow.Author.Tests.{le-leb, lt-leb, leb-true, leb-false}
 use lib.Dec.{leb}
@@ -18,6 +18,7 @@ use Rattle.rules.specs.Columns.{Signal, signs, Begins, Column, upOf, downOf}
 use Rattle.rules.specs.Columns.Signal.{Outside, OverCentre, UnderCentre, Rising, Falling, OverOne, UnderOne, OverTwo, UnderTwo, InsideOne, OutsideOne}
 use Rattle.rules.proofs.Columns.{judged, window-most}
 use Rattle.rules.proofs.Blocks.{near}
+use Rattle.histories.specs.declared.Lane.{Lane}
 use Rattle.histories.specs.Lanes.{kept, laneOf, column, pushed, newest, held, after, fresh}
 use Rattle.histories.specs.Taking.{read, shown, marksAt}
 use Rattle.histories.specs.Runs.{fed}
@@ -90,6 +91,14 @@ module _ (l : Lines) where
   unfolding fed after fresh
   seen-is [] = refl
   seen-is (v ∷ past) = omega (arith, seen-is past)
+
+  -- "A forged number of values seen over 15 counts as 15."
+  pub forged : (lane : Lane) (v : Float) → 15 ≤ lane .seen → after l lane v ≡ after l (laneOf (kept lane) (lane .last) 15) v
+  unfolding after
+  forged lane v over =
+      let same : held (suc (lane .seen)) ≡ held (suc 15) = omega arith in
+      ap₂ (λ (f : Signal → ℕ) (n : ℕ). laneOf f v n)
+      (fun-ext (λ (s : Signal). ap (pushed (newest l (lane .last) v s)) (sym (kept-laneOf (kept lane) (lane .last) 15 s)))) same
 
   -- a window is within so many values exactly if it is within as many, held at 15
   held-fits : (n : ℕ) (t : Test) → leb (window t) (held n) ≡ leb (window t) n

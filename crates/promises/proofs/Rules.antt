@@ -1,4 +1,4 @@
--- Marking, and the window of a test. Assumes nothing.
+-- Marking, the lines of limits, and the window of a test. Assumes nothing.
 use mathlib.Core.Path.{sym, ap₂, _∙_}
 use mathlib.Core.List.{List}
 use Prim.Native.Nat.{ℕ}
@@ -13,6 +13,8 @@ use Rattle.rules.proofs.Refusal.number.Reads as refusal-number
 use Rattle.rules.proofs.Refusal.number.Kinds as refusal-number-kinds
 use Rattle.rules.proofs.finite_limits.Reads as finite-limits
 use Rattle.rules.proofs.finite_limits.Kinds as finite-limits-kinds
+use Rattle.rules.proofs.lines_of.Reads as lines-of
+use Rattle.rules.proofs.lines_of.Kinds as lines-of-kinds
 use Rattle.rules.proofs.window.Reads as window
 use Rattle.rules.proofs.window.Kinds as window-kinds
 use Rattle.promises.proofs.Coincide.{Coincide}
@@ -29,6 +31,9 @@ refusal-number-one κs a x y s t p q = p ∙ sym q
 
 finite-limits-one : Coincide 0 finite-limits-kinds.ps finite-limits-kinds.r finite-limits.Post (λ κs x s. x)
 finite-limits-one κs a x y s t p q = p ∙ sym q
+
+lines-of-one : Coincide 0 lines-of-kinds.ps lines-of-kinds.r lines-of.Post (λ κs x s. x)
+lines-of-one κs a x y s t p q = p ∙ sym q
 
 window-one : Coincide 0 window-kinds.ps window-kinds.r window.Post (λ κs x s. x)
 window-one κs a x y s t p q = p ∙ sym q
