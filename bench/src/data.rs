@@ -7,6 +7,9 @@ pub const POINTS: usize = 4096;
 
 pub const LIMITS: ControlLimits = ControlLimits { ucl: 28.0, cl: 25.0, lcl: 22.0 };
 
+/// As many lanes as are marked by turns.
+pub const LANES: usize = 8;
+
 /// splitmix64, as the oracle has it.
 struct Random(u64);
 

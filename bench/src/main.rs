@@ -8,8 +8,9 @@ mod rust;
 mod stops;
 mod time;
 
-use data::{Samples, Sizes, LIMITS, POINTS};
+use data::{Samples, Sizes, LANES, LIMITS, POINTS};
 use time::{keep, lasting, median, medians, opaque, single};
+use u_analytics::spc::chart::ChartPoint;
 
 const SHEWHART: u16 = 1;
 const NELSON: u16 = 255;
@@ -27,6 +28,7 @@ fn main() {
     marking_stopped(turns);
     single_tests(turns);
     short_series(turns);
+    lanes(turns);
     marking_bytes(turns);
     sheets(turns);
     evidence(turns);
@@ -180,6 +182,41 @@ fn short_series(turns: usize) {
         println!(
             "{n:<36}{mine:>8.0}{theirs:>16.0}{to_values:>8.2}{from_bytes:>10.0}{to_bytes:>8.2}{checking:>10.0}{writing:>10.0}"
         );
+    }
+}
+
+/// Eight lanes by turns, a value at a time. The Rust is asked over the last fifteen points, and for the last of them.
+fn lanes(turns: usize) {
+    println!();
+    println!(
+        "{:<36}{:>8}{:>16}{:>8}{:>14}",
+        "lanes, ns a value", "ours", "Rust, fifteen", "ratio", "ours, whole"
+    );
+    for (name, set, values) in flows() {
+        let series: [Vec<f64>; LANES] =
+            std::array::from_fn(|k| values.iter().copied().skip(k).step_by(LANES).collect());
+        let (points, rules) =
+            (series.each_ref().map(|s| rust::points_of(s.iter().copied())), rust::set_of(set));
+        let one_by_one = |points: &[Vec<ChartPoint>; LANES]| -> Vec<u16> {
+            let at = |i: usize| rust::mark_last(&points[i % LANES][..=i / LANES], rules);
+            (0..POINTS).map(at).collect()
+        };
+        let (mut marks, mut whole) = (vec![0; POINTS], vec![0; POINTS / LANES]);
+        ours::mark_by_lanes(&values, set, &mut marks);
+        assert_eq!(marks, one_by_one(&points), "marks differ: {name}");
+
+        let [mine, theirs, at_once] = medians(
+            turns,
+            [
+                &mut || ours::mark_by_lanes(opaque(&values), set, &mut marks),
+                &mut || keep(one_by_one(opaque(&points))),
+                &mut || {
+                    opaque(&series).iter().for_each(|lane| keep(ours::mark_values(lane, set, &mut whole)))
+                },
+            ],
+        )
+        .map(|t| t / POINTS as f64);
+        println!("{name:<36}{mine:>8.2}{theirs:>16.2}{:>8.2}{at_once:>14.2}", mine / theirs);
     }
 }
 

@@ -1,6 +1,6 @@
 //! Our calls, as the static libraries have them.
 
-use crate::data::{Samples, Sizes, LIMITS};
+use crate::data::{Samples, Sizes, LANES, LIMITS};
 
 extern "C" {
     fn dramulenz_mark(
@@ -47,6 +47,16 @@ extern "C" {
         marks: *mut u16,
         marks_len: usize,
     ) -> u64;
+    fn bench_lanes(
+        ucl: *const [f64; LANES],
+        cl: *const [f64; LANES],
+        lcl: *const [f64; LANES],
+        set: u16,
+        values: *const f64,
+        values_len: usize,
+        marks: *mut u16,
+        marks_len: usize,
+    );
     fn bench_evidence(
         ucl: f64,
         cl: f64,
@@ -141,6 +151,13 @@ pub fn mark_stopped(values: &[f64], stops: &[usize], moving: bool, set: u16, mar
             room,
         )
     }
+}
+
+/// Values of eight lanes by turns, one by one, each with limits that are read for it.
+pub fn mark_by_lanes(values: &[f64], set: u16, marks: &mut [u16]) {
+    let [ucl, cl, lcl] = [LIMITS.ucl, LIMITS.cl, LIMITS.lcl].map(|limit| [limit; LANES]);
+    let (to, room) = (marks.as_mut_ptr(), marks.len());
+    unsafe { bench_lanes(&ucl, &cl, &lcl, set, values.as_ptr(), values.len(), to, room) }
 }
 
 /// How long the window behind a mark is, or 0 where there is none.

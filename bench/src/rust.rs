@@ -26,14 +26,28 @@ pub fn mark(points: &[ChartPoint], set: RuleSet) -> Vec<(usize, ViolationType)> 
     set.check(points, &LIMITS)
 }
 
+/// The marks of the last of the points, asked for as a program does that keeps no more than the longest window.
+pub fn mark_last(points: &[ChartPoint], set: RuleSet) -> u16 {
+    let Some(last) = points.last() else { return 0 };
+    let window = &points[points.len().saturating_sub(15)..];
+    mark(window, set)
+        .iter()
+        .filter(|(index, _)| *index == last.index)
+        .fold(0, |all, (_, test)| all | bit_of(*test))
+}
+
 /// The same as marks of each point.
 pub fn marks_of(list: &[(usize, ViolationType)], points: usize) -> Vec<u16> {
     let mut marks = vec![0u16; points];
     for &(index, test) in list {
-        let bit = ViolationType::ALL.iter().position(|&t| t == test);
-        marks[index] |= 1 << bit.expect("ViolationType::ALL lists every test");
+        marks[index] |= bit_of(test);
     }
     marks
+}
+
+fn bit_of(test: ViolationType) -> u16 {
+    let bit = ViolationType::ALL.iter().position(|&t| t == test);
+    1 << bit.expect("ViolationType::ALL lists every test")
 }
 
 /// A chart that holds its samples. Naming its set makes the Rust evaluate it afresh, once.
