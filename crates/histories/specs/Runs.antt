@@ -32,11 +32,15 @@ accepted limits (c ∷ calls) = cond (eqb (refusal (unstopped limits) (c .0) (c 
 
 -- ---- a series given value by value, with a fresh start at each cut
 
+-- what is answered to the value at position i, where the lane was this one after the value before it
+abbrev pub outcomeFrom : Terms → ℕ → List Float → ℕ → Lane → Outcome
+outcomeFrom terms set values i lane = takeValue (terms .limits) set (cond (cutsOf terms i) fresh lane) (getD values i nan)
+
 -- the lane after the first n values
 unfoldable pub laneAfter : Terms → ℕ → List Float → ℕ → Lane
 laneAfter terms set values zero = fresh
-laneAfter terms set values (suc i) = takeValue (terms .limits) set (cond (cutsOf terms i) fresh (laneAfter terms set values i)) (getD values i nan) .2
+laneAfter terms set values (suc i) = outcomeFrom terms set values i (laneAfter terms set values i) .2
 
 -- what is answered to the value at position i
 abbrev pub outcomeAt : Terms → ℕ → List Float → ℕ → Outcome
-outcomeAt terms set values i = takeValue (terms .limits) set (cond (cutsOf terms i) fresh (laneAfter terms set values i)) (getD values i nan)
+outcomeAt terms set values i = outcomeFrom terms set values i (laneAfter terms set values i)

@@ -49,7 +49,7 @@ pub struct Lane {
     pub seen: u16,
 }
 
-/// What is said of a value that is taken.
+/// What is answered to a value.
 pub enum Answer {
     /// The marks at it (0).
     Marks(u16),
