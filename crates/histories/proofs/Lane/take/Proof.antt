@@ -21,16 +21,21 @@ returns c =
 
 returns-2 : tie.Need-returns-2
 returns-2 c =
-    let a = c .before .before .before .before .before .args in
-    let unsound : finiteLimits (a .limits) ≡ false = sym (c .before .before .before .before .finite-limits .ensures) ∙ not-true _ (c .before .if2 .taken) in
-    c .refuse2 .ensures ∙ sym (limits-refused (a .limits) (a .set .mask) (a .self) (a .value) (c .before .before .if1 .left) unsound)
+    let limits = c .before in
+    let set = limits .before in
+    let a = set .before .before .before .args in
+    let unsound : finiteLimits (a .limits) ≡ false = sym (set .before .before .finite-limits .ensures) ∙ not-true _ (limits .if2 .taken) in
+    c .refuse2 .ensures ∙ sym (limits-refused (a .limits) (a .set .mask) (a .self) (a .value) (set .if1 .left) unsound)
 
 returns-3 : tie.Need-returns-3
 returns-3 c =
-    let a = c .before .before .before .before .before .before .before .args in
-    let sound : finiteLimits (a .limits) ≡ true = sym (c .before .before .before .before .before .before .finite-limits .ensures) ∙ not-false _ (c .before .before .before .if2 .left) in
-    let unsound : finite (a .value) ≡ false = sym (c .before .before .is-finite .ensures) ∙ not-true _ (c .before .if3 .taken) in
-    c .refuse3 .ensures ∙ sym (value-refused (a .limits) (a .set .mask) (a .self) (a .value) (c .before .before .before .before .if1 .left) sound unsound)
+    let value = c .before in
+    let limits = value .before .before in
+    let set = limits .before in
+    let a = set .before .before .before .args in
+    let sound : finiteLimits (a .limits) ≡ true = sym (set .before .before .finite-limits .ensures) ∙ not-false _ (limits .if2 .left) in
+    let unsound : finite (a .value) ≡ false = sym (value .before .is-finite .ensures) ∙ not-true _ (value .if3 .taken) in
+    c .refuse3 .ensures ∙ sym (value-refused (a .limits) (a .set .mask) (a .self) (a .value) (set .if1 .left) sound unsound)
 
 marks-requires : tie.Need-marks-requires
 unfolding after
@@ -38,12 +43,16 @@ marks-requires c κs = rw (c .after .ensures) (min-le-right _ 15)
 
 returns-4 : tie.Need-returns-4
 returns-4 c =
-    let a = c .before .before .before .before .before .before .before .before .before .args in
-    let sound : finiteLimits (a .limits) ≡ true = sym (c .before .before .before .before .before .before .before .before .finite-limits .ensures) ∙ not-false _ (c .before .before .before .before .before .if2 .left) in
-    let is : finite (a .value) ≡ true = sym (c .before .before .before .before .is-finite .ensures) ∙ not-false _ (c .before .before .before .if3 .left) in
+    let lines = c .before .before in
+    let value = lines .before in
+    let limits = value .before .before in
+    let set = limits .before in
+    let a = set .before .before .before .args in
+    let sound : finiteLimits (a .limits) ≡ true = sym (set .before .before .finite-limits .ensures) ∙ not-false _ (limits .if2 .left) in
+    let is : finite (a .value) ≡ true = sym (value .before .is-finite .ensures) ∙ not-false _ (value .if3 .left) in
     ap (λ (m : ℕ). (0, m, c .before .after .result)) (c .marks .ensures)
-    ∙ ap (marked (a .set .mask)) (c .before .after .ensures ∙ ap (λ (l : Lines). after l (a .self) (a .value)) (c .before .before .lines-of .ensures))
-    ∙ sym (value-taken (a .limits) (a .set .mask) (a .self) (a .value) (c .before .before .before .before .before .before .if1 .left) sound is)
+    ∙ ap (marked (a .set .mask)) (c .before .after .ensures ∙ ap (λ (l : Lines). after l (a .self) (a .value)) (lines .lines-of .ensures))
+    ∙ sym (value-taken (a .limits) (a .set .mask) (a .self) (a .value) (set .if1 .left) sound is)
 
 pub take-spec : {M : Type 1} → statement M
 take-spec =

@@ -9,7 +9,20 @@ use Rattle.histories.proofs.reading.standing.Tie as tie
 
 returns : tie.Need-returns
 unfolding setOf tests ruleOf upOf downOf kept
-returns c = rw (c .pack .ensures, c .before .before .before .before .before .before .before .before .before .all .ensures, c .before .before .before .before .before .before .before .before .all2 .ensures, c .before .before .before .before .before .before .before .all3 .ensures, c .before .before .before .all4 .ensures, c .before .before .all5 .ensures, c .before .all6 .ensures, c .before .before .before .before .before .before .by-turns .ensures, c .before .before .before .before .before .some .ensures, c .before .before .before .before .some2 .ensures) refl
+returns c =
+    let eight = c .before in
+    let outside = eight .before in
+    let fifteen = outside .before in
+    let four = fifteen .before in
+    let two = four .before in
+    let turns = two .before in
+    let trend = turns .before in
+    let nine = trend .before in
+    let beyond = nine .before in
+    rw
+    (c .pack .ensures, beyond .all .ensures, nine .all2 .ensures, trend .all3 .ensures, turns .by-turns .ensures,
+    two .some .ensures, four .some2 .ensures, fifteen .all4 .ensures, outside .all5 .ensures, eight .all6 .ensures)
+    refl
 
 pub standing-spec : {M : Type 1} → statement M
 standing-spec =
