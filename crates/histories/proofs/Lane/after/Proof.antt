@@ -21,10 +21,20 @@ returns c =
     let below = rising .before in
     let above = below .before .before in
     let beyond = above .before .before in
-    rw
-    (beyond .push .ensures, above .push2 .ensures, below .push3 .ensures, rising .push4 .ensures,
-    falling .push5 .ensures, above1 .push6 .ensures, below1 .push7 .ensures, above2 .push8 .ensures,
-    below2 .push9 .ensures, within1 .push10 .ensures, beyond1 .push11 .ensures, c .hold .ensures)
+    rw (
+      beyond .push .ensures,
+      above .push2 .ensures,
+      below .push3 .ensures,
+      rising .push4 .ensures,
+      falling .push5 .ensures,
+      above1 .push6 .ensures,
+      below1 .push7 .ensures,
+      above2 .push8 .ensures,
+      below2 .push9 .ensures,
+      within1 .push10 .ensures,
+      beyond1 .push11 .ensures,
+      c .hold .ensures,
+    )
     refl
 
 pub after-spec : {M : Type 1} → statement M

@@ -19,9 +19,18 @@ returns c =
     let trend = turns .before in
     let nine = trend .before in
     let beyond = nine .before in
-    rw
-    (c .pack .ensures, beyond .all .ensures, nine .all2 .ensures, trend .all3 .ensures, turns .by-turns .ensures,
-    two .some .ensures, four .some2 .ensures, fifteen .all4 .ensures, outside .all5 .ensures, eight .all6 .ensures)
+    rw (
+      c .pack .ensures,
+      beyond .all .ensures,
+      nine .all2 .ensures,
+      trend .all3 .ensures,
+      turns .by-turns .ensures,
+      two .some .ensures,
+      four .some2 .ensures,
+      fifteen .all4 .ensures,
+      outside .all5 .ensures,
+      eight .all6 .ensures,
+    )
     refl
 
 pub standing-spec : {M : Type 1} → statement M
