@@ -45,20 +45,22 @@ masked h n = known-by-bits (tabulate (hasBit h) n) (bitAnd h (2 ^ n - 1)) low ea
 newest-bits : (h n : ℕ) → n ≤ 15 → bitAnd h (2 ^ n - 1) ≡ fromBits (take n (column h))
 newest-bits h n small = masked h n ∙ ap fromBits (sym (take-tabulate (hasBit h) n 15 small))
 
--- a number whose bits are all set
+-- a number whose bits are all set: an even one is none, and an odd one is where its half is
+even-not : (f p : ℕ) → 0 < p → eqb (f * 2 + 0) (p * 2 - 1) ≡ false
+even-not f p h = ne-eqb (f * 2 + 0) (p * 2 - 1) (λ e. omega (arith, e))
+
+odd-half : (f p : ℕ) → 0 < p → eqb (f * 2 + 1) (p * 2 - 1) ≡ eqb f (p - 1)
+odd-half f p h = by (eqb f (p - 1)) refl
+  where
+    by : (b : Bool) → eqb f (p - 1) ≡ b → eqb (f * 2 + 1) (p * 2 - 1) ≡ b
+    by true e = eq-eqb (f * 2 + 1) (p * 2 - 1) (omega (arith, eqb-true f (p - 1) e))
+    by false e = ne-eqb (f * 2 + 1) (p * 2 - 1) (λ g. eqb-false f (p - 1) e (omega (arith, g)))
+
 all-set : (bs : List Bool) → eqb (fromBits bs) (2 ^ length bs - 1) ≡ every bs
 unfolding fromBits every
 all-set [] = refl
-all-set (false ∷ bs) = ne-eqb (fromBits bs * 2 + 0) (2 ^ suc (length bs) - 1) (λ e. omega (arith, e, pow-suc 2 (length bs), pow-pos (length bs)))
-all-set (true ∷ bs) = by (eqb (fromBits bs) (2 ^ length bs - 1)) refl ∙ all-set bs
-  where
-    by : (b : Bool) → eqb (fromBits bs) (2 ^ length bs - 1) ≡ b → eqb (fromBits bs * 2 + 1) (2 ^ suc (length bs) - 1) ≡ eqb (fromBits bs) (2 ^ length bs - 1)
-    by true e =
-        eq-eqb (fromBits bs * 2 + 1) (2 ^ suc (length bs) - 1) (omega (arith, eqb-true (fromBits bs) (2 ^ length bs - 1) e, pow-suc 2 (length bs), pow-pos (length bs)))
-        ∙ sym e
-    by false e =
-        ne-eqb (fromBits bs * 2 + 1) (2 ^ suc (length bs) - 1) (λ f. eqb-false (fromBits bs) (2 ^ length bs - 1) e (omega (arith, f, pow-suc 2 (length bs), pow-pos (length bs))))
-        ∙ sym e
+all-set (false ∷ bs) = rw (pow-suc 2 (length bs)) (even-not (fromBits bs) (2 ^ length bs) (pow-pos (length bs)))
+all-set (true ∷ bs) = rw (pow-suc 2 (length bs)) (odd-half (fromBits bs) (2 ^ length bs) (pow-pos (length bs)) ∙ all-set bs)
 
 module _ (h n : ℕ) (small : n ≤ 15) where
   long : length (take n (column h)) ≡ n
