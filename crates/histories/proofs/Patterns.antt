@@ -2,17 +2,17 @@
 -- tests off columns that marking rests on too; and the last fifteen values decide. Assumes nothing.
 use mathlib.Core.Path.{_≡_, refl, sym, ap, ap₂, _∙_, fun-ext}
 use mathlib.Core.Bool.{Bool, true, false, _&&_}
-use mathlib.Core.List.{List, [], _∷_}
+use mathlib.Core.List.{List, [], _∷_, map}
 use Prim.Native.Nat.{ℕ, zero, suc, _≤_}
 use native.Mathlib.Omega.{arith}
 use borrow.Author.Tests.{le-leb, lt-leb, leb-true, leb-false}
 use lib.Dec.{leb}
 use lib.Ieee.{Float}
-use lib.ListN.{length, take}
+use lib.ListN.{length, take, getD}
 use Rattle.sets.specs.declared.Test.{Test}
 use Rattle.sets.specs.Sets.{has, setOf}
 use Rattle.rules.specs.declared.Lines.{Lines}
-use Rattle.rules.specs.Tests.{steps, window}
+use Rattle.rules.specs.Tests.{rise, fall, steps, window}
 use Rattle.rules.specs.Marking.{stands}
 use Rattle.rules.specs.Columns.{Signal, signs, Begins, Column, upOf, downOf}
 use Rattle.rules.specs.Columns.Signal.{Outside, OverCentre, UnderCentre, Rising, Falling, OverOne, UnderOne, OverTwo, UnderTwo, InsideOne, OutsideOne}
@@ -45,35 +45,38 @@ begins-none : (bs : List Bool) → Begins [] bs
 begins-none bs zero small few = refl
 begins-none bs (suc n) small few = absurd (omega arith)
 
--- what is said of the first value: a signal of a zone begins with it, one of a step has yet none
-first-sign : (l : Lines) (u v : Float) (h : ℕ) (s : Signal) → Begins (signs l s (v ∷ [])) (column (pushed (newest l u v s) h))
-unfolding signs steps
-first-sign l u v h Outside = begins-on _ h [] (begins-none _)
-first-sign l u v h OverCentre = begins-on _ h [] (begins-none _)
-first-sign l u v h UnderCentre = begins-on _ h [] (begins-none _)
-first-sign l u v h Rising = begins-none _
-first-sign l u v h Falling = begins-none _
-first-sign l u v h OverOne = begins-on _ h [] (begins-none _)
-first-sign l u v h UnderOne = begins-on _ h [] (begins-none _)
-first-sign l u v h OverTwo = begins-on _ h [] (begins-none _)
-first-sign l u v h UnderTwo = begins-on _ h [] (begins-none _)
-first-sign l u v h InsideOne = begins-on _ h [] (begins-none _)
-first-sign l u v h OutsideOne = begins-on _ h [] (begins-none _)
+-- A signal speaks of where a value lies, or of the step to it.
+data Speaks : (List Float → List Bool) → Type 0 where
+  OfZone : (p : Float → Bool) → Speaks (map p)
+  OfStep : (r : Float → Float → Bool) → Speaks (steps r)
+
+speaks : (l : Lines) (s : Signal) → Speaks (signs l s)
+unfolding signs
+speaks l Outside = OfZone _
+speaks l OverCentre = OfZone _
+speaks l UnderCentre = OfZone _
+speaks l Rising = OfStep rise
+speaks l Falling = OfStep fall
+speaks l OverOne = OfZone _
+speaks l UnderOne = OfZone _
+speaks l OverTwo = OfZone _
+speaks l UnderTwo = OfZone _
+speaks l InsideOne = OfZone _
+speaks l OutsideOne = OfZone _
+
+-- what is said of the first value v: a zone begins with it, a step has yet none
+first-said : {says : List Float → List Bool} → Speaks says → (u v : Float) (h : ℕ)
+    → Begins (says (v ∷ [])) (column (pushed (getD (says (v ∷ u ∷ [])) 0 false) h))
+unfolding steps
+first-said (OfZone p) u v h = begins-on (p v) h [] (begins-none _)
+first-said (OfStep r) u v h = begins-none _
 
 -- of the next: it comes before what was said
-next-sign : (l : Lines) (u v : Float) (past : List Float) (s : Signal) → signs l s (v ∷ u ∷ past) ≡ newest l u v s ∷ signs l s (u ∷ past)
-unfolding signs steps
-next-sign l u v past Outside = refl
-next-sign l u v past OverCentre = refl
-next-sign l u v past UnderCentre = refl
-next-sign l u v past Rising = refl
-next-sign l u v past Falling = refl
-next-sign l u v past OverOne = refl
-next-sign l u v past UnderOne = refl
-next-sign l u v past OverTwo = refl
-next-sign l u v past UnderTwo = refl
-next-sign l u v past InsideOne = refl
-next-sign l u v past OutsideOne = refl
+next-said : {says : List Float → List Bool} → Speaks says → (u v : Float) (past : List Float)
+    → says (v ∷ u ∷ past) ≡ getD (says (v ∷ u ∷ [])) 0 false ∷ says (u ∷ past)
+unfolding steps
+next-said (OfZone p) u v past = refl
+next-said (OfStep r) u v past = refl
 
 module _ (l : Lines) where
   -- the histories after some values are their columns
@@ -81,10 +84,10 @@ module _ (l : Lines) where
   unfolding fed after
   columns v [] s =
       rw (kept-laneOf (λ s. pushed (newest l (fresh .last) v s) (kept fresh s)) v (held (suc (fresh .seen))) s)
-      (first-sign l (fresh .last) v (kept fresh s) s)
+      (first-said (speaks l s) (fresh .last) v (kept fresh s))
   columns v (u ∷ past) s =
       let lane = fed l (u ∷ past) in
-      rw (kept-laneOf (λ s. pushed (newest l u v s) (kept lane s)) v (held (suc (lane .seen))) s, next-sign l u v past s)
+      rw (kept-laneOf (λ s. pushed (newest l u v s) (kept lane s)) v (held (suc (lane .seen))) s, next-said (speaks l s) u v past)
       (begins-on (newest l u v s) (kept lane s) (signs l s (u ∷ past)) (columns u past s))
 
   seen-is : (past : List Float) → fed l past .seen ≡ held (length past)

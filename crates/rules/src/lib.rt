@@ -53,7 +53,7 @@ pub fn window(t: Test) -> usize
     WINDOWS[t.bit() as usize]
 }
 
-/// Why a series is not marked, checked or written.
+/// Why a series is not marked, checked or written, or a value not taken.
 pub enum Refusal {
     /// There are more than 4,096 values (5).
     TooMany,
