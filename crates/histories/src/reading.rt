@@ -10,24 +10,24 @@ ghost use Rattle.rules.specs.Columns.Rule.{AllOf, SomeOf, InTurns};
 ghost use Rattle.histories.specs.Lanes.{column};
 ghost use Rattle.histories.specs.Taking.{read, marksAt};
 
-// The tests whose window is within so many values.
+// The tests whose window is within so many values, a bit for each.
 const FITTING: [u16; 16] = [
-    0,
-    1,
-    1,
-    17,
-    17,
-    49,
-    53,
-    53,
-    437,
-    439,
-    439,
-    439,
-    439,
-    439,
-    447,
-    511,
+    0b0_0000_0000,
+    0b0_0000_0001,
+    0b0_0000_0001,
+    0b0_0001_0001,
+    0b0_0001_0001,
+    0b0_0011_0001,
+    0b0_0011_0101,
+    0b0_0011_0101,
+    0b1_1011_0101,
+    0b1_1011_0111,
+    0b1_1011_0111,
+    0b1_1011_0111,
+    0b1_1011_0111,
+    0b1_1011_0111,
+    0b1_1011_1111,
+    0b1_1111_1111,
 ];
 
 // The mask of the newest n bits.
