@@ -124,6 +124,24 @@ fn main() {
         list.push(random.next() >> (12 + i % 52));
     }
 
+    // numbers with few binary digits, where the digit work ends early, or just does not: squares of
+    // whole numbers of every length up to 26 digits, some of which end in zeros, the next whole
+    // numbers and the next quarter steps, and powers of two times them: 1, 1/16 (so that whole
+    // numbers are quarter steps squared), an even and an odd one, and a subnormal one
+    for length in 1..=26 {
+        for ending in [0, 0, 0, 1, 2, length / 2] {
+            let k = (1 << (length - 1) | random.below(1 << (length - 1))) >> ending << ending;
+            let n = (k * k) as f64;
+            let (even, odd) = (2 * random.below(450) as i32 - 450, 2 * random.below(450) as i32 - 449);
+            let least = f64::from_bits(1 << random.below(20));
+            for x in [n - 1.0, n - 0.25, n, n + 0.25, n + 1.0] {
+                for power in [1.0, 0.0625, 2f64.powi(even), 2f64.powi(odd), least] {
+                    list.push((x * power).to_bits());
+                }
+            }
+        }
+    }
+
     let mut out = std::io::BufWriter::new(std::io::stdout().lock());
     for bits in list {
         out.write_all(&bits.to_le_bytes()).unwrap();

@@ -73,6 +73,18 @@ pub fn positive() -> Vec<f64> {
     any.filter(|x| x.is_finite()).take(POINTS).collect()
 }
 
+/// Squares of whole numbers from 1 up to some most.
+pub fn squares(most: u64) -> Vec<f64> {
+    let mut random = Random(7);
+    (0..POINTS).map(|_| 1 + random.bits() % most).map(|k| (k * k) as f64).collect()
+}
+
+/// Lengths of parcels about 400 mm, with a deviation of 20 mm, in whole millimetres.
+pub fn millimetres() -> Vec<f64> {
+    let mut random = Random(8);
+    (0..POINTS).map(|_| (400.0 + 20.0 * random.bell()).round()).collect()
+}
+
 /// The samples of an attribute chart: how many were damaged, and of how many parcels or units.
 pub struct Samples {
     pub counts: Vec<u64>,

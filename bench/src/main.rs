@@ -306,20 +306,25 @@ fn evidence(turns: usize) {
 }
 
 fn roots(turns: usize) {
-    let numbers = data::positive();
-    for &x in &numbers {
-        assert_eq!(ours::root(x).to_bits(), x.sqrt().to_bits(), "roots differ: of {x:e}");
-    }
-    let [mine, machine] = medians(
-        turns,
-        [&mut || numbers.iter().for_each(|&x| keep(ours::root(opaque(x)))), &mut || {
-            numbers.iter().for_each(|&x| keep(opaque(x).sqrt()))
-        }],
-    )
-    .map(|t| t / numbers.len() as f64);
     println!();
     println!("{:<36}{:>8}{:>16}{:>8}", "root, ns each", "ours", "the machine's", "ratio");
-    println!("{:<36}{mine:>8.2}{machine:>16.2}{:>8.2}", "any magnitude", mine / machine);
+    for (name, numbers) in [
+        ("any magnitude", data::positive()),
+        ("squares of numbers up to 2^20", data::squares(1 << 20)),
+        ("squares of numbers up to 2^10", data::squares(1 << 10)),
+    ] {
+        for &x in &numbers {
+            assert_eq!(ours::root(x).to_bits(), x.sqrt().to_bits(), "roots differ: of {x:e}");
+        }
+        let [mine, machine] = medians(
+            turns,
+            [&mut || numbers.iter().for_each(|&x| keep(ours::root(opaque(x)))), &mut || {
+                numbers.iter().for_each(|&x| keep(opaque(x).sqrt()))
+            }],
+        )
+        .map(|t| t / numbers.len() as f64);
+        println!("{name:<36}{mine:>8.2}{machine:>16.2}{:>8.2}", mine / machine);
+    }
 }
 
 /// What the package adds to a call, so that its mode is the default one: on the call that takes least.
@@ -350,10 +355,12 @@ fn under(callers: mode::word::Word, call: impl Fn() -> f64) {
 fn evaluating(turns: usize) {
     println!();
     println!("{:<36}{:>8}{:>16}{:>8}", "evaluating, nelson, ns a value", "ours", "Rust", "ratio");
-    for (name, kind, size) in
-        [("individuals, 4,096", 1, 1), ("X-bar-R, 819 of 5", 2, 5), ("X-bar-S, 819 of 5", 3, 5)]
-    {
-        let mut values = data::in_control();
+    for (name, kind, size, mut values) in [
+        ("individuals, 4,096", 1, 1, data::in_control()),
+        ("X-bar-R, 819 of 5", 2, 5, data::in_control()),
+        ("X-bar-S, 819 of 5", 3, 5, data::in_control()),
+        ("X-bar-S, whole millimetres", 3, 5, data::millimetres()),
+    ] {
         values.truncate(values.len() / size * size);
         let rules = rust::set_of(NELSON);
         let mut room = ours::Room::new(values.len());

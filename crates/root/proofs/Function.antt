@@ -12,7 +12,7 @@ use Rattle.root.specs.declared.Rooted.{Rooted}
 use Rattle.root.specs.declared.Rooted.the-variants.{Root, Refused}
 use Rattle.root.specs.Root.{scaled, IsRoot, Allowed, floorRoot, rootAt, rootOf, Answer, numbered}
 use Rattle.root.specs.Steps.{Form}
-use Rattle.root.proofs.Squares.{square-next, square-twice, square-odd, four-positive}
+use Rattle.root.proofs.Squares.{Floor, square-next, square-twice, square-odd, four-positive}
 use Rattle.root.proofs.Nearest.{rounded}
 use Rattle.root.proofs.Unique.{allowed-unique}
 use Rattle.root.proofs.Form.{top-digit, form-of}
@@ -20,9 +20,6 @@ use Rattle.root.proofs.Answers.{not-refused}
 use Rattle.root.proofs.Halving.{lead, half, lead-most, halved, found}
 
 -- ---- `floorRoot` is the whole part of the root
-abbrev Floor : (r n : ℕ) → Type 0
-Floor r n = (r * r ≤ n) × (n < (r + 1) * (r + 1))
-
 floor-next : (r n : ℕ) → Floor r (n / 4) → (b : Bool) → (T b → (2 * r + 1) * (2 * r + 1) ≤ n) → (T (not b) → n < (2 * r + 1) * (2 * r + 1))
     → Floor (cond b (2 * r + 1) (2 * r)) n
 floor-next r n f true under over = (under tt, omega (arith, f .1, square-next (2 * r + 1), square-odd r, square-next r))

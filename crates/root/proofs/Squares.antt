@@ -20,6 +20,11 @@ use native.Mathlib.Omega.{arith}
 use lib.Pow.{pow-lt, pow-mono}
 
 -- ---- squares
+
+-- r is the whole part of the root of n
+abbrev pub Floor : (r n : ℕ) → Type 0
+Floor r n = (r * r ≤ n) × (n < (r + 1) * (r + 1))
+
 pub square-next : (r : ℕ) → (r + 1) * (r + 1) ≡ r * r + 2 * r + 1
 square-next r = add-mul r 1 (r + 1) ∙ omega (arith, mul-add r r 1)
 

@@ -1,121 +1,152 @@
--- The digit loop: what holds after each turn, as plain numbers, and that a turn as the code writes it keeps it. Assumes nothing.
-use mathlib.Core.Path.{_≡_, sym, ap, _∙_}
-use mathlib.Core.Bool.{Bool, true, false, not}
-use Prim.Native.Nat.{ℕ, _+_, _-_, _*_, _/_, _%_, _^_, _≤_, _<_}
-use native.Mathlib.Nat.{mul-left-comm, mul-one, mul-zero, lt-of-lt-of-le, mod-eq-of-lt}
+-- The digit loop: what holds before each turn, as plain numbers, and that a turn as the code writes it keeps it. Assumes nothing.
+use mathlib.Core.Path.{_≡_, refl, sym, ap, _∙_}
+use mathlib.Core.Bool.{Bool, true, false, not, cond}
+use Prim.Native.Nat.{ℕ, zero, suc, _+_, _-_, _*_, _/_, _%_, _^_, _≤_, _<_}
+use native.Mathlib.Nat.{mul-assoc, mul-comm, mul-one, add-mul, mul-add, sub-zero, mod-eq-of-lt, pow-suc}
 use native.Mathlib.Omega.{arith}
-use lib.Bits.{bitAnd, bitOr, or-shifted, and-mask, and-zero-r}
-use lib.Dec.{T, leb, leb→le, nleb→lt, lit<}
-use lib.Pow.{pow-mono}
+use lib.Bits.{bitAnd, and-mask, and-zero-r}
+use lib.Dec.{T, ltb, ltb→lt, nltb→le}
+use lib.Pow.{pow-pos}
 use mir.Val.{boolByte}
-use Rattle.root.proofs.Squares.{square-next, square-twice, square-odd, two-next, four-next}
+use Rattle.root.proofs.Squares.{Floor, square-next}
 
--- After i turns: r is the first i digits of the root of w / 2^64 * 4^54, rem is what its square leaves of the digits that were brought down, and
--- rest has those that are yet to come down.
-pub record Turn (w rest rem r i : ℕ) : Type 0 where
-  pub upto : i ≤ 54
-  pub small : r < 2 ^ i
-  pub low : rem ≤ 2 * r
-  pub fits : rest < 2 ^ 64
-  pub sum : (r * r + rem) * 2 ^ 64 + rest ≡ w * 4 ^ i
+-- n is the square of the root so far, and rem units. A root with one unit more takes trial units more. The last digit so far stands for two units,
+-- and from the root so far no digits to come lead beyond the 54.
+pub record Turn (n rem trial unit : ℕ) : Type 0 where
+  pub root : ℕ
+  pub place : ℕ
+  pub unit-is : unit ≡ 2 ^ place
+  pub trial-is : trial ≡ 2 * root + unit
+  pub sum : root * root + rem * unit ≡ n
+  pub low : rem < 4 * root + 4 * unit
+  pub fits : root + 2 * unit ≤ 2 ^ 54
 
-pub start : (w : ℕ) → w < 2 ^ 64 → Turn w w 0 0 0
-start w h = record { upto = omega arith; small = omega arith; low = omega arith; fits = h; sum = omega (arith, mul-one w) }
+pub start : (a : ℕ) → a < 2 ^ 54 → Turn (a * 2 ^ 54) (a * 2) (2 ^ 53) (2 ^ 53)
+start a h = record { root = 0; place = 53; unit-is = refl; trial-is = refl; sum = omega arith; low = omega arith; fits = omega arith }
 
--- after the last turn r is the whole part of the root of a * 2^54
-pub ended : (a : ℕ) {rest rem r i : ℕ} → Turn (a * 1024) rest rem r i → 54 ≤ i → (r * r ≤ a * 2 ^ 54) × (a * 2 ^ 54 < (r + 1) * (r + 1))
-ended a {rest} {rem} {r} {i} t h =
-    let last : i ≡ 54 = omega (arith, t .upto) in
-    let sum : (r * r + rem) * 2 ^ 64 + rest ≡ a * 1024 * 4 ^ 54 = t .sum ∙ ap (λ (j : ℕ). a * 1024 * 4 ^ j) last in
-    (omega (arith, t .fits), omega (arith, t .fits, t .low, square-next r))
+-- nothing is left: all digits to come are zeros
+pub stopped : {n rem trial unit : ℕ} → Turn n rem trial unit → rem ≡ 0 → Floor ((trial - unit) / 2) n
+stopped {n} {rem} {trial} {unit} t none =
+    let is : (trial - unit) / 2 ≡ t .root = omega (arith, t .trial-is) in
+    let all : t .root * t .root ≡ n = omega (arith, ap (λ (x : ℕ). x * unit) none, t .sum) in
+    rw is (omega (arith, all), omega (arith, all, square-next (t .root)))
 
--- ---- the numbers of a turn, as the code writes them
+-- ---- a turn, as sums
 
--- the remainder, with two more digits of the number brought down
-abbrev brought : ℕ → ℕ → ℕ
-brought rem rest = bitOr (rem * 4 % 2 ^ 64) (rest / 2 ^ 62)
+-- one unit more in the root
+square-more : (r u e : ℕ) → (r + u) * (r + u) + e * u ≡ r * r + (2 * r + u + e) * u
+square-more r u e =
+    omega
+    (arith, add-mul r u (r + u), mul-add r r u, mul-add u r u, mul-comm u r, add-mul (2 * r + u) e u, add-mul (2 * r) u u, mul-assoc 2 r u)
 
--- what is taken away where the root's next digit is 1
-abbrev trial : ℕ → ℕ
-trial r = bitOr (r * 4 % 2 ^ 64) 1
+twice-half : (x half : ℕ) {unit : ℕ} → unit ≡ 2 * half → x * 2 * half ≡ x * unit
+twice-half x half e = mul-assoc x 2 half ∙ ap (λ (y : ℕ). x * y) (sym e)
 
--- whether it is, as a Bool and as a number
-abbrev goes : ℕ → ℕ → ℕ → Bool
-goes rest rem r = leb (trial r) (brought rem rest)
+-- a unit is two of the next, but for the last, which is 1
+two-of-next : (place : ℕ) → 0 < 2 ^ place / 2 → (p : ℕ) × (2 ^ place / 2 ≡ 2 ^ p) × (2 ^ place ≡ 2 * (2 ^ place / 2))
+two-of-next zero h = absurd (omega arith)
+two-of-next (suc p) h = (p, omega (arith, pow-suc 2 p), omega (arith, pow-suc 2 p))
 
-abbrev digit : ℕ → ℕ → ℕ → ℕ
-digit rest rem r = boolByte (goes rest rem r)
+-- what is left, and the next trial: b says that the digit is 0
+abbrev left : Bool → ℕ → ℕ → ℕ
+left b rem trial = rem * 2 - cond b 0 (trial * 2)
 
--- ---- the same as sums: nothing is shifted out at the top
+abbrev next : Bool → ℕ → ℕ → ℕ
+next b trial unit = trial - unit / 2 + cond b 0 (unit * 2)
 
-shifted : (x j d : ℕ) → d < 2 ^ j → x * 2 ^ j < 2 ^ 64 → bitOr (x * 2 ^ j % 2 ^ 64) d ≡ x * 2 ^ j + d
-shifted x j d h fits = rw (mod-eq-of-lt fits) (or-shifted x j d h)
+module _ {n rem trial unit : ℕ} (t : Turn n rem trial unit) where
+  -- ahead of another digit
+  module _ (more : 0 < unit / 2) where
+    smaller : (p : ℕ) × (unit / 2 ≡ 2 ^ p) × (unit ≡ 2 * (unit / 2))
+    smaller = rw (t .unit-is) (two-of-next (t .place) (rw (← t .unit-is) more))
 
-one-bit : (b : Bool) → boolByte b < 2 ^ 1
-one-bit true = lit< tt
-one-bit false = lit< tt
+    nought : rem < trial → Turn n (left true rem trial) (next true trial unit) (unit / 2)
+    nought short = record {
+      root = t .root;
+      place = smaller .0;
+      unit-is = smaller .1;
+      trial-is = omega (arith, smaller .2, t .trial-is);
+      sum = rw sub-zero (omega (arith, twice-half rem (unit / 2) (smaller .2), t .sum));
+      low = omega (arith, smaller .2, t .trial-is);
+      fits = omega (arith, smaller .2, t .fits);
+    }
 
--- t or 0, taken by the mask k that is 0 - b in 64 bits
-masked : (t k : ℕ) (b : Bool) → t < 2 ^ 64 → k < 2 ^ 64 → (k + boolByte b) % 2 ^ 64 ≡ 0 → bitAnd t k ≡ t * boolByte b
-masked t k true h l e =
-    let ones : k ≡ 2 ^ 64 - 1 = omega arith in
-    rw ones (and-mask t 64 ∙ mod-eq-of-lt h ∙ sym (mul-one t))
-masked t k false h l e =
+    one : trial ≤ rem → Turn n (left false rem trial) (next false trial unit) (unit / 2)
+    one enough =
+        let e = rem - trial in
+        let all : 2 * t .root + unit + e ≡ rem = omega (arith, t .trial-is) in
+        let twice : rem * 2 - trial * 2 ≡ e * 2 = omega arith in
+        record {
+          root = t .root + unit;
+          place = smaller .0;
+          unit-is = smaller .1;
+          trial-is = omega (arith, smaller .2, t .trial-is);
+          sum = rw twice (omega (arith, twice-half e (unit / 2) (smaller .2), square-more (t .root) unit e, ap (λ (x : ℕ). x * unit) all, t .sum));
+          low = omega (arith, smaller .2, t .trial-is, t .low);
+          fits = omega (arith, smaller .2, t .fits);
+        }
+
+  -- the last digit
+  module _ (last : unit / 2 ≡ 0) where
+    is-one : unit ≡ 1
+    is-one = omega (arith, t .unit-is, pow-pos (t .place))
+
+    all : t .root * t .root + rem ≡ n
+    all = ap (λ (x : ℕ). t .root * t .root + x) (sym (mul-one rem) ∙ ap (λ (x : ℕ). rem * x) (sym is-one)) ∙ t .sum
+
+    last-nought : rem < trial → Floor (next true trial unit / 2) n
+    last-nought short =
+        let is : next true trial unit / 2 ≡ t .root = omega (arith, is-one, t .trial-is) in
+        rw is (omega (arith, all), omega (arith, all, is-one, t .trial-is, square-next (t .root)))
+
+    last-one : trial ≤ rem → Floor (next false trial unit / 2) n
+    last-one enough =
+        let is : next false trial unit / 2 ≡ t .root + 1 = omega (arith, is-one, t .trial-is) in
+        rw is (
+          omega (arith, all, is-one, t .trial-is, square-next (t .root)),
+          omega (arith, all, is-one, t .low, square-next (t .root), square-next (t .root + 1)),
+        )
+
+-- ---- a turn, as the code writes it
+
+by-less : (P : Bool → Type 0) (x y : ℕ) → (x < y → P true) → (y ≤ x → P false) → P (ltb x y)
+by-less P x y short enough = by (ltb x y) (ltb→lt x y) (nltb→le x y)
+  where
+    by : (b : Bool) → (T b → x < y) → (T (not b) → y ≤ x) → P b
+    by true f g = short (f tt)
+    by false f g = enough (g tt)
+
+-- x or nothing, taken by the mask k that is b - 1 in 64 bits
+masked : (x k : ℕ) (b : Bool) → x < 2 ^ 64 → k < 2 ^ 64 → (k + 1) % 2 ^ 64 ≡ boolByte b → bitAnd x k ≡ cond b 0 x
+masked x k true h l e =
     let none : k ≡ 0 = omega arith in
-    rw none (and-zero-r t ∙ sym (mul-zero t))
+    rw none (and-zero-r x)
+masked x k false h l e =
+    let ones : k ≡ 2 ^ 64 - 1 = omega arith in
+    rw ones (and-mask x 64 ∙ mod-eq-of-lt h)
 
-module _ {w rest rem r i : ℕ} (t : Turn w rest rem r i) where
-  digits-fit : r < 2 ^ 54
-  digits-fit = lt-of-lt-of-le (t .small) (pow-mono (t .upto))
+module _ {n rem trial unit : ℕ} (t : Turn n rem trial unit) (k : ℕ) (h : k < 2 ^ 64) (e : (k + 1) % 2 ^ 64 ≡ boolByte (ltb rem trial)) where
+  taken : (x : ℕ) → x * 2 < 2 ^ 64 → bitAnd (x * 2 % 2 ^ 64) k ≡ cond (ltb rem trial) 0 (x * 2)
+  taken x fits = rw (mod-eq-of-lt fits) (masked (x * 2) k (ltb rem trial) fits h e)
 
-  brought-is : brought rem rest ≡ rem * 4 + rest / 2 ^ 62
-  brought-is = shifted rem 2 (rest / 2 ^ 62) (omega (arith, t .fits)) (omega (arith, t .low, digits-fit))
+  trial-taken : bitAnd (trial * 2 % 2 ^ 64) k ≡ cond (ltb rem trial) 0 (trial * 2)
+  trial-taken = taken trial (omega (arith, t .trial-is, t .fits))
 
-  trial-is : trial r ≡ r * 4 + 1
-  trial-is = shifted r 2 1 (lit< tt) (omega (arith, digits-fit))
+  unit-taken : bitAnd (unit * 2 % 2 ^ 64) k ≡ cond (ltb rem trial) 0 (unit * 2)
+  unit-taken = taken unit (omega (arith, t .fits))
 
-  longer-is : (b : Bool) → bitOr (r * 2 % 2 ^ 64) (boolByte b) ≡ 2 * r + boolByte b
-  longer-is b = shifted r 1 (boolByte b) (one-bit b) (omega (arith, digits-fit)) ∙ omega arith
+  rem-doubled : rem * 2 % 2 ^ 64 ≡ rem * 2
+  rem-doubled = mod-eq-of-lt (omega (arith, t .low, t .fits))
 
--- ---- a turn
-four-more : (w i : ℕ) → w * 4 ^ (i + 1) ≡ 4 * (w * 4 ^ i)
-four-more w i = rw four-next (mul-left-comm w 4 (4 ^ i))
+  -- no more is taken away than there is
+  pub enough : bitAnd (trial * 2 % 2 ^ 64) k ≤ rem * 2 % 2 ^ 64
+  enough = rw (trial-taken, rem-doubled) (by-less (λ b. cond b 0 (trial * 2) ≤ rem * 2) rem trial (λ h. omega arith) (λ h. omega arith))
 
--- what a turn asks, that it takes away no more than there is, and what it gives
-abbrev Turned : (w rest i brought taken root : ℕ) → Type 0
-Turned w rest i brought taken root = (taken ≤ brought) × Turn w (rest * 4 % 2 ^ 64) (brought - taken) root (i + 1)
+  pub again : 0 < unit / 2
+      → Turn n (rem * 2 % 2 ^ 64 - bitAnd (trial * 2 % 2 ^ 64) k) (trial - unit / 2 + bitAnd (unit * 2 % 2 ^ 64) k) (unit / 2)
+  again more =
+      rw (trial-taken, unit-taken, rem-doubled)
+      (by-less (λ b. Turn n (left b rem trial) (next b trial unit) (unit / 2)) rem trial (nought t more) (one t more))
 
-module _ {w rest rem r i : ℕ} (t : Turn w rest rem r i) (more : i < 54) where
-  -- as sums, for either digit
-  turn-by : (b : Bool) → (T b → r * 4 + 1 ≤ rem * 4 + rest / 2 ^ 62) → (T (not b) → rem * 4 + rest / 2 ^ 62 < r * 4 + 1)
-      → Turned w rest i (rem * 4 + rest / 2 ^ 62) ((r * 4 + 1) * boolByte b) (2 * r + boolByte b)
-  turn-by true goes short = (
-    omega (arith, goes tt),
-    record {
-      upto = omega arith;
-      small = omega (arith, t .small, two-next i);
-      low = omega (arith, goes tt, t .low, t .fits);
-      fits = omega arith;
-      sum = omega (arith, goes tt, t .sum, t .fits, four-more w i, square-odd r);
-    },
-  )
-  turn-by false goes short = (
-    omega arith,
-    record {
-      upto = omega arith;
-      small = omega (arith, t .small, two-next i);
-      low = omega (arith, short tt);
-      fits = omega arith;
-      sum = omega (arith, short tt, t .sum, t .fits, four-more w i, square-twice r);
-    },
-  )
-
-  -- as the code has it, k being the mask
-  pub turned : (k : ℕ) → k < 2 ^ 64 → (k + digit rest rem r) % 2 ^ 64 ≡ 0
-      → Turned w rest i (brought rem rest) (bitAnd (trial r) k) (bitOr (r * 2 % 2 ^ 64) (digit rest rem r))
-  turned k h e =
-      let y = r * 4 + 1 in
-      let u = rem * 4 + rest / 2 ^ 62 in
-      let fits : trial r < 2 ^ 64 = omega (arith, trial-is t, digits-fit t) in
-      rw (masked (trial r) k (goes rest rem r) fits h e, longer-is t (goes rest rem r), brought-is t, trial-is t)
-      (turn-by (leb y u) (leb→le y u) (nleb→lt y u))
+  pub ended : unit / 2 ≡ 0 → Floor ((trial - unit / 2 + bitAnd (unit * 2 % 2 ^ 64) k) / 2) n
+  ended last = rw unit-taken (by-less (λ b. Floor (next b trial unit / 2) n) rem trial (last-nought t last) (last-one t last))

@@ -32,29 +32,35 @@ const INFINITY: u64 = 0x7ff0_0000_0000_0000;
 // The bits of -0.0.
 const MINUS_ZERO: u64 = 0x8000_0000_0000_0000;
 
-// The whole part of the root of a * 2^54, one binary digit a turn. Two binary digits of a * 2^54
-// at a time are shifted out of `rest` into `rem`, which holds what the square of the root's digits
-// so far, `r`, leaves of the number's digits so far. With one more digit d the square takes away
-// d * (4 * r + 1) besides, so d is 1 where that much is there. A mask takes it away, and no branch:
-// the digits of a root cannot be guessed by the processor.
+// What the first of 54 binary digits stands for: 2^53.
+const FIRST: u64 = 0x20_0000_0000_0000;
+
+// The whole part of the root of a * 2^54, one binary digit a turn. The root's digits so far stand in
+// their places, with zeros behind them, and the next one stands for `unit`. What the square of that
+// root leaves of a * 2^54 is `rem` units: the remainder and every digit of the number that is still
+// to be brought down, in one. A root with one unit more takes `trial` units more, which is twice the
+// root and one unit, so the next digit is 1 where that many are there. Then the unit is halved, so
+// what is left counts twice. A mask takes it away, and no branch: the digits of a root cannot be
+// guessed by the processor. Where no unit is left all digits to come are zeros, and the work ends:
+// less its unit `trial` is twice the root, and one shift gives the root with these zeros in it.
 fn digits(a: u64) -> u64
     requires { ⌜ a < 2 ^ 54 ⌝ }
     ensures { λ r. ⌜ (r * r ≤ a * 2 ^ 54) × (a * 2 ^ 54 < (r + 1) * (r + 1)) ⌝ }
 {
-    let mut rest = a << 10;
-    let mut rem: u64 = 0;
-    let mut r: u64 = 0;
-    let mut i: u64 = 0;
-    while i < 54 {
-        rem = (rem << 2) | (rest >> 62);
-        rest = rest << 2;
-        let t = (r << 2) | 1;
-        let d = (t <= rem) as u64;
-        rem = rem - (t & std::num::wrapping_sub_u64(0, d));
-        r = (r << 1) | d;
-        i = i + 1;
+    let mut rem = a << 1;
+    let mut trial = FIRST;
+    let mut unit = FIRST;
+    while rem != 0 {
+        // every bit is set where the digit is 1
+        let taken = std::num::wrapping_sub_u64((rem < trial) as u64, 1);
+        rem = (rem << 1) - ((trial << 1) & taken);
+        trial = trial - (unit >> 1) + ((unit << 1) & taken);
+        unit = unit >> 1;
+        if unit == 0 {
+            return trial >> 1;
+        }
     }
-    r
+    (trial - unit) >> 1
 }
 
 // A finite number above 0, times 4^591, is s * 2^(p + 55), with s of 53 binary digits and p from 1.
