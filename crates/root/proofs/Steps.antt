@@ -7,7 +7,7 @@ use native.Mathlib.Omega.{arith}
 use lib.Bits.{bitAnd, bitOr, and-mask, or-shifted-r}
 use lib.Count.{leadingZeros, leading-top}
 use lib.Dec.{lit≤}
-use lib.Pow.{pow-add, pow-mono}
+use lib.Pow.{pow-add, pow-mono, pow-pos}
 use lib.Ieee.{binary64, ofBits}
 use Rattle.root.specs.Root.{scaled}
 use Rattle.root.specs.Steps.{infinity, Places, RootBits}
@@ -79,6 +79,9 @@ shifted-is s p h = rw (and-mask p 1) (mod-eq-of-lt (omega (arith, lead-most s p 
 -- one digit more, and the root of that, whichever the parity
 pub shifted-fits : (s d : ℕ) → s < 2 ^ 53 → d ≤ 1 → s * 2 ^ d % 2 ^ 64 < 2 ^ 54
 shifted-fits s d h one = omega (arith, mul-le-mul-left s (pow-mono one))
+
+pub shifted-least : (s d : ℕ) → 2 ^ 52 ≤ s → s < 2 ^ 53 → d ≤ 1 → 2 ^ 52 ≤ s * 2 ^ d % 2 ^ 64
+shifted-least s d least most one = omega (arith, mul-le-mul-left s (pow-mono one), mul-le-mul-left s (pow-pos d))
 
 pub root-fits : (a R : ℕ) → a < 2 ^ 54 → R * R ≤ a * 2 ^ 54 → R + 1 < 2 ^ 64
 root-fits a R h under =

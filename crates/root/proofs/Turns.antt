@@ -21,8 +21,17 @@ pub record Turn (n rem trial unit : ℕ) : Type 0 where
   pub low : rem < 4 * root + 4 * unit
   pub fits : root + 2 * unit ≤ 2 ^ 54
 
-pub start : (a : ℕ) → a < 2 ^ 54 → Turn (a * 2 ^ 54) (a * 2) (2 ^ 53) (2 ^ 53)
-start a h = record { root = 0; place = 53; unit-is = refl; trial-is = refl; sum = omega arith; low = omega arith; fits = omega arith }
+-- with its first digit the root is 2^53
+pub start : (a : ℕ) → 2 ^ 52 ≤ a → a < 2 ^ 54 → Turn (a * 2 ^ 54) (a * 4 - 2 ^ 54) (2 ^ 54 + 2 ^ 52) (2 ^ 52)
+start a least most = record {
+  root = 2 ^ 53;
+  place = 52;
+  unit-is = refl;
+  trial-is = refl;
+  sum = omega arith;
+  low = omega arith;
+  fits = omega arith;
+}
 
 -- nothing is left: all digits to come are zeros
 pub stopped : {n rem trial unit : ℕ} → Turn n rem trial unit → rem ≡ 0 → Floor ((trial - unit) / 2) n

@@ -32,24 +32,22 @@ const INFINITY: u64 = 0x7ff0_0000_0000_0000;
 // The bits of -0.0.
 const MINUS_ZERO: u64 = 0x8000_0000_0000_0000;
 
-// What the first of 54 binary digits stands for: 2^53.
-const FIRST: u64 = 0x20_0000_0000_0000;
-
 // The whole part of the root of a * 2^54, one binary digit a turn. The root's digits so far stand in
 // their places, with zeros behind them, and the next one stands for `unit`. What the square of that
 // root leaves of a * 2^54 is `rem` units: the remainder and every digit of the number that is still
 // to be brought down, in one. A root with one unit more takes `trial` units more, which is twice the
 // root and one unit, so the next digit is 1 where that many are there. Then the unit is halved, so
 // what is left counts twice. A mask takes it away, and no branch: the digits of a root cannot be
-// guessed by the processor. Where no unit is left all digits to come are zeros, and the work ends:
-// less its unit `trial` is twice the root, and one shift gives the root with these zeros in it.
+// guessed by the processor. The first of the 54 digits is 1, so the loop begins with the second.
+// Where no unit is left all digits to come are zeros, and the work ends: less its unit `trial` is
+// twice the root, and one shift gives the root with these zeros in it.
 fn digits(a: u64) -> u64
-    requires { ⌜ a < 2 ^ 54 ⌝ }
+    requires { ⌜ (2 ^ 52 ≤ a) × (a < 2 ^ 54) ⌝ }
     ensures { λ r. ⌜ (r * r ≤ a * 2 ^ 54) × (a * 2 ^ 54 < (r + 1) * (r + 1)) ⌝ }
 {
-    let mut rem = a << 1;
-    let mut trial = FIRST;
-    let mut unit = FIRST;
+    let mut rem = (a << 2) - 0x40_0000_0000_0000;
+    let mut trial: u64 = 0x50_0000_0000_0000;
+    let mut unit: u64 = 0x10_0000_0000_0000;
     while rem != 0 {
         // every bit is set where the digit is 1
         let taken = std::num::wrapping_sub_u64((rem < trial) as u64, 1);

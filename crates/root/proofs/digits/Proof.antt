@@ -14,10 +14,13 @@ Inv-loop a rem₀ trial₀ unit₀ rem trial unit = Turn (a * 2 ^ 54) rem trial 
 abbrev μ-loop : tie.MeasureT-loop
 μ-loop a rem₀ trial₀ unit₀ rem trial unit = unit
 
+sub-rem : tie.Need-sub-rem Inv-loop μ-loop
+sub-rem c = omega (arith, c .pre .0, c .pre .1)
+
 loop-holds : tie.Need-loop-holds Inv-loop μ-loop
 loop-holds c =
-    let fits : c .args .a * 2 < 2 ^ 64 = omega (arith, c .pre) in
-    rw (mod-eq-of-lt fits) (start (c .args .a) (c .pre))
+    let fits : c .args .a * 4 < 2 ^ 64 = omega (arith, c .pre .1) in
+    rw (mod-eq-of-lt fits) (start (c .args .a) (c .pre .0) (c .pre .1))
 
 cast-wrapping-sub-u64 : tie.Need-cast-wrapping-sub-u64 Inv-loop μ-loop
 cast-wrapping-sub-u64 c = tt
@@ -25,8 +28,8 @@ cast-wrapping-sub-u64 c = tt
 wrapping-sub-u64-requires : tie.Need-wrapping-sub-u64-requires Inv-loop μ-loop
 wrapping-sub-u64-requires c κs = tt
 
-sub-rem : tie.Need-sub-rem Inv-loop μ-loop
-sub-rem c =
+sub-rem-2 : tie.Need-sub-rem-2 Inv-loop μ-loop
+sub-rem-2 c =
     let k = c .wrapping-sub-u64 in
     enough (c .before .before .loop .inv) (k .result) (omega (arith, k .ok)) (k .ensures)
 
@@ -61,10 +64,11 @@ digits-spec =
     (tie.spec
     Inv-loop
     μ-loop
+    sub-rem
     loop-holds
     cast-wrapping-sub-u64
     wrapping-sub-u64-requires
-    sub-rem
+    sub-rem-2
     sub-trial
     add-trial
     returns

@@ -2,7 +2,7 @@
 use native.Mathlib.Omega.{arith}
 use borrow.Author.Needs.{needs}
 use lib.Bits.{and-le-r}
-use Rattle.root.proofs.Steps.{shifted-fits, root-fits, finished}
+use Rattle.root.proofs.Steps.{shifted-fits, shifted-least, root-fits, finished}
 use Rattle.root.proofs.root_bits.Statement.{statement}
 use Rattle.root.proofs.root_bits.Tie as tie
 
@@ -16,7 +16,9 @@ shl-a : tie.Need-shl-a
 shl-a c = search needs
 
 digits-requires : tie.Need-digits-requires
-digits-requires c κs = shifted-fits (c .place .result .s) _ (c .place .ensures .most) (omega arith)
+digits-requires c κs =
+    let at = c .place in
+    (shifted-least (at .result .s) _ (at .ensures .least) (at .ensures .most) (omega arith), shifted-fits (at .result .s) _ (at .ensures .most) (omega arith))
 
 add-m : tie.Need-add-m
 add-m c =
