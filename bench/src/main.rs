@@ -305,9 +305,13 @@ fn evidence(turns: usize) {
     }
 }
 
+/// One at a time through the boundary, and all in a loop of ours.
 fn roots(turns: usize) {
     println!();
-    println!("{:<36}{:>8}{:>16}{:>8}", "root, ns each", "ours", "the machine's", "ratio");
+    println!(
+        "{:<36}{:>8}{:>16}{:>8}{:>14}",
+        "root, ns each", "ours", "the machine's", "ratio", "ours, a loop"
+    );
     for (name, numbers) in [
         ("any magnitude", data::positive()),
         ("squares of numbers up to 2^20", data::squares(1 << 20)),
@@ -322,8 +326,17 @@ fn roots(turns: usize) {
                 numbers.iter().for_each(|&x| keep(opaque(x).sqrt()))
             }],
         )
-        .map(|t| t / numbers.len() as f64);
-        println!("{name:<36}{mine:>8.2}{machine:>16.2}{:>8.2}", mine / machine);
+        .map(|t| t / POINTS as f64);
+        let mut room = numbers.clone();
+        let times = single(
+            turns,
+            [&mut || {
+                room.copy_from_slice(&numbers);
+                lasting(|| ours::roots(opaque(&mut room)))
+            }],
+        );
+        let looped = median(&times, |turn: &[f64; 1]| turn[0]) / POINTS as f64;
+        println!("{name:<36}{mine:>8.2}{machine:>16.2}{:>8.2}{looped:>14.2}", mine / machine);
     }
 }
 

@@ -10,8 +10,8 @@ use lib.Pow.{pow-pos}
 use mir.Val.{boolByte}
 use Rattle.root.proofs.Squares.{Floor, square-next}
 
--- n is the square of the root so far, and rem units. A root with one unit more takes trial units more. The last digit so far stands for two units,
--- and from the root so far no digits to come lead beyond the 54.
+-- n is the square of the root so far, and rem units. One unit more in the root adds trial units to the square. Two units more, which is 1 in the
+-- last digit so far, would be too many (`low`), and whatever digits come the root has no more than 54 of them (`fits`).
 pub record Turn (n rem trial unit : ℕ) : Type 0 where
   pub root : ℕ
   pub place : ℕ

@@ -35,16 +35,17 @@ const MINUS_ZERO: u64 = 0x8000_0000_0000_0000;
 // The whole part of the root of a * 2^54, one binary digit a turn. The root's digits so far stand in
 // their places, with zeros behind them, and the next one stands for `unit`. What the square of that
 // root leaves of a * 2^54 is `rem` units: the remainder and every digit of the number that is still
-// to be brought down, in one. A root with one unit more takes `trial` units more, which is twice the
-// root and one unit, so the next digit is 1 where that many are there. Then the unit is halved, so
-// what is left counts twice. A mask takes it away, and no branch: the digits of a root cannot be
-// guessed by the processor. The first of the 54 digits is 1, so the loop begins with the second.
-// Where no unit is left all digits to come are zeros, and the work ends: less its unit `trial` is
-// twice the root, and one shift gives the root with these zeros in it.
+// to be brought down, in one. One unit more in the root adds `trial` units to the square, which is
+// twice the root and one unit, so the next digit is 1 where that many are left. Then the unit is
+// halved, and what is left counts twice. A mask takes the trial away, and no branch: the digits of a
+// root cannot be guessed by the processor. Where nothing is left all digits to come are zeros, and
+// the work ends: less its unit the trial is twice the root, and one shift gives the root, with the
+// zeros in it.
 fn digits(a: u64) -> u64
     requires { ⌜ (2 ^ 52 ≤ a) × (a < 2 ^ 54) ⌝ }
     ensures { λ r. ⌜ (r * r ≤ a * 2 ^ 54) × (a * 2 ^ 54 < (r + 1) * (r + 1)) ⌝ }
 {
+    // the first of the 54 digits is 1: the root so far is 2^53, and the next digit stands for 2^52
     let mut rem = (a << 2) - 0x40_0000_0000_0000;
     let mut trial: u64 = 0x50_0000_0000_0000;
     let mut unit: u64 = 0x10_0000_0000_0000;
