@@ -66,17 +66,24 @@ pub fn beyond(some: u64, of: u64) -> Vec<f64> {
     (0..POINTS).map(|_| if random.bits() % of < some { 29.0 } else { 25.0 }).collect()
 }
 
-/// Positive f64 of every magnitude.
-pub fn positive() -> Vec<f64> {
+/// Positive f64 of every magnitude, another at each call.
+pub fn positive() -> impl FnMut() -> f64 {
     let mut random = Random(3);
-    let any = std::iter::repeat_with(|| f64::from_bits(random.bits() >> 1));
-    any.filter(|x| x.is_finite()).take(POINTS).collect()
+    move || loop {
+        let x = f64::from_bits(random.bits() >> 1);
+        if x.is_finite() {
+            return x;
+        }
+    }
 }
 
-/// Squares of whole numbers from 1 up to some most.
-pub fn squares(most: u64) -> Vec<f64> {
+/// Squares of whole numbers from 1 up to some most, another at each call.
+pub fn squares(most: u64) -> impl FnMut() -> f64 {
     let mut random = Random(7);
-    (0..POINTS).map(|_| 1 + random.bits() % most).map(|k| (k * k) as f64).collect()
+    move || {
+        let k = 1 + random.bits() % most;
+        (k * k) as f64
+    }
 }
 
 /// Lengths of parcels about 400 mm, with a deviation of 20 mm, in whole millimetres.

@@ -305,37 +305,44 @@ fn evidence(turns: usize) {
     }
 }
 
-/// One at a time through the boundary, and all in a loop of ours.
+/// One at a time through the boundary, and all in a loop of ours. Each time is that of numbers not seen before: by the
+/// same ones again and again a processor learns where each root ends.
 fn roots(turns: usize) {
     println!();
     println!(
         "{:<36}{:>8}{:>16}{:>8}{:>14}",
         "root, ns each", "ours", "the machine's", "ratio", "ours, a loop"
     );
-    for (name, numbers) in [
-        ("any magnitude", data::positive()),
-        ("squares of numbers up to 2^20", data::squares(1 << 20)),
-        ("squares of numbers up to 2^10", data::squares(1 << 10)),
-    ] {
-        for &x in &numbers {
+    let lines: [(&str, &mut dyn FnMut() -> f64); 3] = [
+        ("any magnitude", &mut data::positive()),
+        ("squares of numbers up to 2^20", &mut data::squares(1 << 20)),
+        ("squares of numbers up to 2^10", &mut data::squares(1 << 10)),
+    ];
+    for (name, draw) in lines {
+        let draw = std::cell::RefCell::new(draw);
+        let fresh = || -> Vec<f64> { (0..POINTS).map(|_| draw.borrow_mut()()).collect() };
+        for x in fresh() {
             assert_eq!(ours::root(x).to_bits(), x.sqrt().to_bits(), "roots differ: of {x:e}");
         }
-        let [mine, machine] = medians(
-            turns,
-            [&mut || numbers.iter().for_each(|&x| keep(ours::root(opaque(x)))), &mut || {
-                numbers.iter().for_each(|&x| keep(opaque(x).sqrt()))
-            }],
-        )
-        .map(|t| t / POINTS as f64);
-        let mut room = numbers.clone();
         let times = single(
             turns,
-            [&mut || {
-                room.copy_from_slice(&numbers);
-                lasting(|| ours::roots(opaque(&mut room)))
-            }],
+            [
+                &mut || {
+                    let numbers = fresh();
+                    lasting(|| numbers.iter().for_each(|&x| keep(ours::root(opaque(x)))))
+                },
+                &mut || {
+                    let numbers = fresh();
+                    lasting(|| numbers.iter().for_each(|&x| keep(opaque(x).sqrt())))
+                },
+                &mut || {
+                    let mut numbers = fresh();
+                    lasting(|| ours::roots(opaque(&mut numbers)))
+                },
+            ],
         );
-        let looped = median(&times, |turn: &[f64; 1]| turn[0]) / POINTS as f64;
+        let [mine, machine, looped] =
+            [0, 1, 2].map(|k| median(&times, |turn: &[f64; 3]| turn[k]) / POINTS as f64);
         println!("{name:<36}{mine:>8.2}{machine:>16.2}{:>8.2}{looped:>14.2}", mine / machine);
     }
 }
