@@ -26,6 +26,7 @@ number-some refusing.Overflow e = omega arith
 number-some refusing.TooFew e = omega arith
 number-some refusing.Record e = omega arith
 number-some refusing.Stops e = omega arith
+number-some refusing.WidthMode e = omega arith
 
 -- the refusal of a number
 abbrev named : ℕ → Refusal
@@ -37,7 +38,8 @@ named n =
     (cond (eqb n 5) refusing.Full
     (cond (eqb n 6) refusing.TooShort
     (cond (eqb n 7) refusing.Overflow
-    (cond (eqb n 8) refusing.TooFew (cond (eqb n 14) refusing.Record refusing.Stops))))))))
+    (cond (eqb n 8) refusing.TooFew
+    (cond (eqb n 14) refusing.Record (cond (eqb n 15) refusing.Stops refusing.WidthMode)))))))))
 
 named-number : (why : Refusal) → named (number why) ≡ why
 named-number refusing.Size = refl
@@ -50,6 +52,7 @@ named-number refusing.Overflow = refl
 named-number refusing.TooFew = refl
 named-number refusing.Record = refl
 named-number refusing.Stops = refl
+named-number refusing.WidthMode = refl
 
 pub number-one : (a b : Refusal) → number a ≡ number b → a ≡ b
 number-one a b e = sym (named-number a) ∙ ap named e ∙ named-number b

@@ -57,6 +57,8 @@ pub enum Refusal {
     Record,
     /// The stops are none of the chart, or more than the list holds (15).
     Stops,
+    /// The width mode is not 0 or 1 (21).
+    WidthMode,
 }
 
 /// What making or changing a chart answers.
@@ -85,6 +87,7 @@ impl Refusal {
             Refusal::TooFew => 8,
             Refusal::Record => 14,
             Refusal::Stops => 15,
+            Refusal::WidthMode => 21,
         }
     }
 }

@@ -17,8 +17,7 @@ use Rattle.sets.specs.declared.Test.{Test}
 use Rattle.sets.specs.Sets.{tests, has, setOf}
 use Rattle.sets.proofs.Sets.{has-setOf}
 use Rattle.rules.specs.Terms.{Terms}
-use Rattle.rules.specs.Lines.{linesOf}
-use Rattle.rules.specs.Marking.{newestFirst, stands, marksAt, cutsOf, marksOf, most, answerOf, marksAfter}
+use Rattle.rules.specs.Marking.{newestFirst, stands, marksAt, cutsOf, linesFor, marksOf, most, answerOf, marksAfter}
 use Rattle.rules.proofs.Accepted.{marks-front}
 use Rattle.evaluating.specs.Evaluating.{numberOf}
 use Rattle.evaluating.specs.Steps.{onesIn}
@@ -50,7 +49,7 @@ module _ (p : ℕ → Test → Bool) where
 
 pub ones-marks : (terms : Terms) (set : ℕ) (values : List Float) → onesIn (marksOf terms set values) ≡ numberOf (marksOf terms set values)
 unfolding marksOf marksAt
-ones-marks terms set values = ones-sets (λ i t. has set t && stands (linesOf (terms .limits)) (newestFirst (cutsOf terms) values (suc i)) t) 0 (length values)
+ones-marks terms set values = ones-sets (λ i t. has set t && stands (linesFor terms) (newestFirst (cutsOf terms) values (suc i)) t) 0 (length values)
 
 -- ---- the marks at the front of their slice
 

@@ -62,4 +62,4 @@ module _ (a : Asked) (e : Estimated) (found : estimated e ≡ estimateOf a) wher
 -- the record of a chart that has figures is not wrong
 pub record-right : (a : Asked) → sigmaNumber a ≡ 0 → recordWrong (a .chart) (length (a .values)) ≡ false
 unfolding sigmaNumber Passed every
-record-right a e = were-passed (refusals a false false) refl e .0
+record-right a e = were-passed (refusals a false false false) refl e .0

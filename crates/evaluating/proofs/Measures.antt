@@ -17,7 +17,7 @@ use Rattle.rules.specs.Finite.{finiteLimits}
 use Rattle.arith.specs.Arith.{meanOf}
 use Rattle.arith.proofs.Means.{finite-mean}
 use Rattle.charts.specs.declared.Chart.{Chart}
-use Rattle.evaluating.specs.Asked.{Asked, interrupted, stopsAmong}
+use Rattle.evaluating.specs.Asked.{Asked, interrupted, inMode, stopsAmong}
 use Rattle.evaluating.specs.Series.{bySeries, pointAt, pointsIn, seriesOf}
 use Rattle.evaluating.specs.Limits.{mainLimits, dispersionLimits, centreOf, limitsOf}
 use Rattle.evaluating.specs.Evaluating.{sound}
@@ -71,13 +71,14 @@ module _ (a : Asked) where
   unfolding centreOf
   from-series m d = ap₂ (λ (l k : List Float). limitsFrom (a .chart) (meanOf l) (meanOf k)) m d ∙ from-centres
 
--- ---- stops change neither the series nor what is measured of them: a moving range that straddles one counts towards the limits
+-- ---- stops and the width mode change neither the series nor what is measured of them: a moving range that straddles a stop counts towards
+-- the limits
 
-module _ (a : Asked) (positions : List ℕ) where
-  pub same-series : (s : ℕ) → seriesOf (interrupted a positions) s ≡ seriesOf a s
+module _ (a : Asked) (positions : List ℕ) (width : ℕ) where
+  pub same-series : (s : ℕ) → seriesOf (inMode (interrupted a positions) width) s ≡ seriesOf a s
   unfolding seriesOf pointAt
   same-series s = refl
 
-  pub same-measures : measured (interrupted a positions) ≡ measured a
+  pub same-measures : measured (inMode (interrupted a positions) width) ≡ measured a
   unfolding sound limitsOf bySeries centreOf seriesOf pointAt
   same-measures = refl

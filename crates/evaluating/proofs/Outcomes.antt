@@ -19,6 +19,7 @@ use Rattle.floats.specs.Finite.{allFinite}
 use Rattle.rules.specs.declared.Limits.{Limits}
 use Rattle.rules.specs.Finite.{finiteLimits}
 use Rattle.rules.specs.Marking.{marksOf, answerOf}
+use Rattle.rules.specs.Lines.{widthWrong}
 use Rattle.rules.specs.Terms.{Terms, under}
 use Rattle.stops.specs.Stops.{stopsWrong, mainPoints}
 use Rattle.stops.proofs.Rising.{none-wrong}
@@ -84,64 +85,65 @@ none-stopped c positions e =
     ap₂ _||_ (le-ltb (length positions) (c .stops) (omega arith))
     (ap (λ (n : ℕ). stopsWrong (pointsIn c 0) (take n positions)) e ∙ none-wrong (pointsIn c 0))
 
-module _ (a : Asked) (wrong short : Bool) where
+module _ (a : Asked) (wrong mode short : Bool) where
   pub record Ahead : Type 0 where
     pub right : recordWrong (a .chart) (length (a .values)) ≡ false
     pub stopped : wrong ≡ false
+    pub moded : mode ≡ false
     pub enough : tooFew (a .chart) ≡ false
     pub room : short ≡ false
 
-  pub were-ahead : firstOf (ahead a wrong short) 0 ≡ 0 → Ahead
+  pub were-ahead : firstOf (ahead a wrong mode short) 0 ≡ 0 → Ahead
   unfolding Passed every
   were-ahead e =
-      let all = were-passed (ahead a wrong short) refl e in
-      record { right = all .0; stopped = all .1 .0; enough = all .1 .1 .0; room = all .1 .1 .1 .0 }
+      let all = were-passed (ahead a wrong mode short) refl e in
+      record { right = all .0; stopped = all .1 .0; moded = all .1 .1 .0; enough = all .1 .1 .1 .0; room = all .1 .1 .1 .1 .0 }
 
   -- where they are passed, 7 decides
-  whole : firstOf (refusals a wrong short) 0
-      ≡ cond (eqb (firstOf (ahead a wrong short) 0) 0) (firstOf (drop 5 (refusals a wrong short)) 0) (firstOf (ahead a wrong short) 0)
+  whole : firstOf (refusals a wrong mode short) 0
+      ≡ cond (eqb (firstOf (ahead a wrong mode short) 0) 0) (firstOf (drop 6 (refusals a wrong mode short)) 0) (firstOf (ahead a wrong mode short) 0)
   unfolding every
-  whole = first-append (ahead a wrong short) (drop 5 (refusals a wrong short)) 0 ∙ first-else (ahead a wrong short) _ refl
+  whole = first-append (ahead a wrong mode short) (drop 6 (refusals a wrong mode short)) 0 ∙ first-else (ahead a wrong mode short) _ refl
 
-  module _ (e : firstOf (ahead a wrong short) 0 ≡ 0) where
-    by-7 : firstOf (refusals a wrong short) 0 ≡ firstOf (drop 5 (refusals a wrong short)) 0
-    by-7 = whole ∙ ap (λ (b : Bool). cond b (firstOf (drop 5 (refusals a wrong short)) 0) (firstOf (ahead a wrong short) 0)) (eq-eqb _ 0 e)
+  module _ (e : firstOf (ahead a wrong mode short) 0 ≡ 0) where
+    by-7 : firstOf (refusals a wrong mode short) 0 ≡ firstOf (drop 6 (refusals a wrong mode short)) 0
+    by-7 = whole ∙ ap (λ (b : Bool). cond b (firstOf (drop 6 (refusals a wrong mode short)) 0) (firstOf (ahead a wrong mode short) 0)) (eq-eqb _ 0 e)
 
-    pub number-7 : sound a ≡ false → firstOf (refusals a wrong short) 0 ≡ 7
+    pub number-7 : sound a ≡ false → firstOf (refusals a wrong mode short) 0 ≡ 7
     number-7 h = by-7 ∙ refused _ _ _ _ (ap not h)
 
-    pub number-0 : sound a ≡ true → firstOf (refusals a wrong short) 0 ≡ 0
+    pub number-0 : sound a ≡ true → firstOf (refusals a wrong mode short) 0 ≡ 0
     number-0 h = by-7 ∙ passed _ _ _ _ (ap not h) ∙ none-applies 0
 
   -- ---- refused ahead of 7
 
-  module _ {why : Refusal} {t : Tested} (is : t ≡ testing.Refused why) (found : tested t ≡ firstOf (ahead a wrong short) 0) where
-    e : firstOf (ahead a wrong short) 0 ≡ number why
+  module _ {why : Refusal} {t : Tested} (is : t ≡ testing.Refused why) (found : tested t ≡ firstOf (ahead a wrong mode short) 0) where
+    e : firstOf (ahead a wrong mode short) 0 ≡ number why
     e = sym found ∙ ap tested is
 
-    pub number-ahead : firstOf (refusals a wrong short) 0 ≡ number why
+    pub number-ahead : firstOf (refusals a wrong mode short) 0 ≡ number why
     number-ahead =
         whole
-        ∙ ap (λ (n : ℕ). cond (eqb n 0) (firstOf (drop 5 (refusals a wrong short)) 0) n) e
-        ∙ ap (λ (b : Bool). cond b (firstOf (drop 5 (refusals a wrong short)) 0) (number why)) (ne-eqb (number why) 0 (number-some why))
+        ∙ ap (λ (n : ℕ). cond (eqb n 0) (firstOf (drop 6 (refusals a wrong mode short)) 0) n) e
+        ∙ ap (λ (b : Bool). cond b (firstOf (drop 6 (refusals a wrong mode short)) 0) (number why)) (ne-eqb (number why) 0 (number-some why))
 
     pub slice-refused : {A : Type 0} (nought : A) (written old : List A) → old ≡ lentAfter (number why) nought written old
     unfolding every
     slice-refused nought written old =
         slice-kept nought written old (number why) (number-some why)
-        (ap (λ (n : ℕ). eqb n 7) (sym e) ∙ not-true (eqb (firstOf (ahead a wrong short) 0) 7) (first-such (λ n. not (eqb n 7)) (ahead a wrong short) refl refl))
+        (ap (λ (n : ℕ). eqb n 7) (sym e) ∙ not-true (eqb (firstOf (ahead a wrong mode short) 0) 7) (first-such (λ n. not (eqb n 7)) (ahead a wrong mode short) refl refl))
 
 -- ---- the answer, by its number
 
 module _ (a : Asked) (short : Bool) where
-  pub answer-refused : (n : ℕ) → firstOf (refusals a (positionsWrong (a .chart) (a .positions)) short) 0 ≡ n → (n ≡ 0 → ⊥) → answerRefused n ≡ evaluateOf a short
+  pub answer-refused : (n : ℕ) → firstOf (refusals a (positionsWrong (a .chart) (a .positions)) (widthWrong (a .width)) short) 0 ≡ n → (n ≡ 0 → ⊥) → answerRefused n ≡ evaluateOf a short
   unfolding evaluateOf answerFor
   answer-refused n is some =
       sym
       (ap (λ (k : ℕ). answerFor k a) is
       ∙ ap (λ (b : Bool). cond b (doneOf a) (answerRefused n)) (ne-eqb n 0 some))
 
-  pub answer-done : firstOf (refusals a (positionsWrong (a .chart) (a .positions)) short) 0 ≡ 0 → doneOf a ≡ evaluateOf a short
+  pub answer-done : firstOf (refusals a (positionsWrong (a .chart) (a .positions)) (widthWrong (a .width)) short) 0 ≡ 0 → doneOf a ≡ evaluateOf a short
   unfolding evaluateOf answerFor
   answer-done is = sym (ap (λ (k : ℕ). answerFor k a) is)
 
@@ -167,15 +169,15 @@ sound-parts a h =
 module _ (a : Asked) (s : ℕ) {l : Limits} (e : l ≡ limitsOf a s) {points : List Float} (f : points ≡ seriesOf a s)
     {stops : List ℕ} (g : stops ≡ stopsAmong (a .chart) (a .positions)) {moving : Bool} (m : moving ≡ movingIn (a .chart) s) where
   abbrev theirs : Terms
-  theirs = under (limitsOf a s) (stopsAmong (a .chart) (a .positions)) (movingIn (a .chart) s)
+  theirs = under (limitsOf a s) (a .width) (stopsAmong (a .chart) (a .positions)) (movingIn (a .chart) s)
 
-  same-terms : under l stops moving ≡ theirs
+  same-terms : under l (a .width) stops moving ≡ theirs
   same-terms = cc
 
   pub marking-done : (room : ℕ) → recordWrong (a .chart) (length (a .values)) ≡ false → positionsWrong (a .chart) (a .positions) ≡ false
-      → tooFew (a .chart) ≡ false → Sound a s → pointsIn (a .chart) s ≤ room → answerOf (under l stops moving) (a .chart .set .mask) points room ≡ 0
+      → widthWrong (a .width) ≡ false → tooFew (a .chart) ≡ false → Sound a s → pointsIn (a .chart) s ≤ room → answerOf (under l (a .width) stops moving) (a .chart .set .mask) points room ≡ 0
   unfolding positionsWrong
-  marking-done room right stopped enough fine h =
+  marking-done room right stopped moded enough fine h =
       let own = held (a .chart) (length (a .values)) right .figures in
       ap₂ (λ (t : Terms) (p : List _). answerOf t (a .chart .set .mask) p room) same-terms f
       ∙ marking.answer-done theirs (a .chart .set .mask) (seriesOf a s) room
@@ -186,13 +188,14 @@ module _ (a : Asked) (s : ℕ) {l : Limits} (e : l ≡ limitsOf a s) {points : L
             (ap (mainPoints (movingIn (a .chart) s)) (length-series a s) ∙ main-points (a .chart) s (some-held (a .chart) enough))
             ∙ or-right (ltb (length (a .positions)) (a .chart .stops)) _ stopped;
         small = own .set-small;
+        mode = ltb-false 1 (a .width) moded;
         sound = fine .limits;
         finite = fine .points;
       }))
       (omega (arith, length-series a s, h))
 
   -- and its marks are those of the series
-  pub marks-are : marksOf (under l stops moving) (a .chart .set .mask) points ≡ seriesMarks a s
+  pub marks-are : marksOf (under l (a .width) stops moving) (a .chart .set .mask) points ≡ seriesMarks a s
   unfolding seriesMarks
   marks-are = ap₂ (λ (t : Terms) (p : List _). marksOf t (a .chart .set .mask) p) same-terms f
 

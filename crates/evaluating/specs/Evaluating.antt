@@ -1,5 +1,6 @@
 -- Evaluating: its answer, and what each lent slice then holds (01, 'The charts', last paragraph; 'Numbers a call may give back', rows 3, 6,
--- 7 and 8, and Order; 02, R-1: row 15). Definitions only.
+-- 7 and 8, and Order; 02, R-1 and R-5: rows 15
+-- and 21). Definitions only.
 use mathlib.Core.Bool.{Bool, cond, not, _&&_, _||_}
 use mathlib.Core.List.{List, [], _∷_, map}
 use Prim.Native.Nat.{ℕ, _+_}
@@ -13,6 +14,7 @@ use Rattle.rules.specs.declared.Limits.{Limits}
 use Rattle.floats.specs.Finite.{allFinite}
 use Rattle.floats.specs.Values.{plusZero}
 use Rattle.rules.specs.Finite.{finiteLimits}
+use Rattle.rules.specs.Lines.{widthWrong}
 use Rattle.rules.specs.Terms.{under}
 use Rattle.rules.specs.Marking.{marksOf}
 use Rattle.charts.specs.declared.Chart.{Chart}
@@ -52,7 +54,7 @@ abbrev pub evaluated : Evaluated → Answer
 evaluated (Done e) = answerDone (e .main) (e .dispersion) (e .marks)
 evaluated (Refused why) = answerRefused (number why)
 
--- ---- "Evaluate: 14, 8, 6, 3 for stored values, 7.", and 15 "after 14 in evaluating"
+-- ---- "Evaluate: 14, 8, 6, 3 for stored values, 7.", with 15 "after 14 in evaluating" and 21 "after 14 and 15"
 
 -- 15: "stops not strictly rising, outside 1 to the main series' points less one, or more than the list holds"
 unfoldable pub positionsWrong : Chart → List ℕ → Bool
@@ -71,12 +73,13 @@ noRoom c main dispersion mainMarks dispersionMarks =
 unfoldable pub sound : Asked → Bool
 sound a = allFinite (seriesOf a 0) && allFinite (seriesOf a 1) && (finiteLimits (limitsOf a 0) && finiteLimits (limitsOf a 1))
 
--- All of them; `wrong` says whether 15 applies, `short` whether 6 does. The sigma figures have theirs by this list too ("14, 8, 3, 7, as
--- evaluating would"): no positions are lent to them that could be wrong, and no slice that could be short.
-abbrev pub refusals : Asked → Bool → Bool → List (Bool × ℕ)
-refusals a wrong short =
+-- All of them; `wrong` says whether 15 applies, `mode` whether 21 does, `short` whether 6 does. The sigma figures have theirs by this list
+-- too ("14, 8, 3, 7, as evaluating would"): they are lent no positions, given no mode and lent no slice that could be refused.
+abbrev pub refusals : Asked → Bool → Bool → Bool → List (Bool × ℕ)
+refusals a wrong mode short =
     (recordWrong (a .chart) (length (a .values)), 14)
     ∷ (wrong, 15)
+    ∷ (mode, 21)
     ∷ (tooFew (a .chart), 8)
     ∷ (short, 6)
     ∷ (not (allFinite (stored a)), 3)
@@ -87,7 +90,8 @@ refusals a wrong short =
 
 -- the marks of a series
 unfoldable pub seriesMarks : Asked → ℕ → List ℕ
-seriesMarks a s = marksOf (under (limitsOf a s) (stopsAmong (a .chart) (a .positions)) (movingIn (a .chart) s)) (a .chart .set .mask) (seriesOf a s)
+seriesMarks a s =
+    marksOf (under (limitsOf a s) (a .width) (stopsAmong (a .chart) (a .positions)) (movingIn (a .chart) s)) (a .chart .set .mask) (seriesOf a s)
 
 -- "the number of marks (pairs of point and test, ..)"
 unfoldable pub numberOf : List ℕ → ℕ
@@ -104,4 +108,4 @@ unfoldable pub answerFor : ℕ → Asked → Answer
 answerFor n a = cond (eqb n 0) (doneOf a) (answerRefused n)
 
 unfoldable pub evaluateOf : Asked → Bool → Answer
-evaluateOf a short = answerFor (firstOf (refusals a (positionsWrong (a .chart) (a .positions)) short) 0) a
+evaluateOf a short = answerFor (firstOf (refusals a (positionsWrong (a .chart) (a .positions)) (widthWrong (a .width)) short) 0) a

@@ -29,7 +29,7 @@ estimated (estimating.Refused why) = (number why, plusZero, plusZero)
 
 -- "14, 8, 3, 7, as evaluating would"
 unfoldable pub sigmaNumber : Asked → ℕ
-sigmaNumber a = firstOf (refusals a false false) 0
+sigmaNumber a = firstOf (refusals a false false false) 0
 
 -- the number, and the value where it is 0
 unfoldable pub unlessRefused : ℕ → Float → ℕ × Float

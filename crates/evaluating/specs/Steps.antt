@@ -16,8 +16,8 @@ use Rattle.evaluating.specs.Limits.{mainLimits, dispersionLimits, limits
 use Rattle.evaluating.specs.Evaluating.{sound, refusals}
 
 -- the refusals ahead of the arithmetic: all but 7
-abbrev pub ahead : Asked → Bool → Bool → List (Bool × ℕ)
-ahead a wrong short = take 5 (refusals a wrong short)
+abbrev pub ahead : Asked → Bool → Bool → Bool → List (Bool × ℕ)
+ahead a wrong mode short = take 6 (refusals a wrong mode short)
 
 -- the number of what the tests of them found
 abbrev pub tested : Tested → ℕ

@@ -50,15 +50,18 @@ pub fn no_room(
     (main < n) | (main_marks < n) | (dispersion < k) | (dispersion_marks < k)
 }
 
-// 14, 15 where positions are wrong, 8, 6 where a lent slice is too short, and 3.
-pub fn check(c: Chart, values: &[f64], wrong: bool, short: bool) -> Tested
-    ensures { λ r. ⌜ tested r ≡ firstOf (ahead (asked c (now (values .entry))) wrong short) 0 ⌝ }
+// 14, 15 where positions are wrong, 21 where the width mode is, 8, 6 where a lent slice is too short, and 3.
+pub fn check(c: Chart, values: &[f64], wrong: bool, mode: bool, short: bool) -> Tested
+    ensures { λ r. ⌜ tested r ≡ firstOf (ahead (asked c (now (values .entry))) wrong mode short) 0 ⌝ }
 {
     if c.record_wrong(values.len()) {
         return Tested::Refused(Refusal::Record);
     }
     if wrong {
         return Tested::Refused(Refusal::Stops);
+    }
+    if mode {
+        return Tested::Refused(Refusal::WidthMode);
     }
     if too_few(c) {
         return Tested::Refused(Refusal::TooFew);

@@ -12,11 +12,12 @@ use charts::Chart;
 use charts::Refusal;
 use checks::Tested;
 use rules::Limits;
+use rules::OWN_WIDTHS;
 ghost use mathlib.Core.Path.{_≡_};
 ghost use lib.ListN.{length};
 ghost use Rattle.laws.specs.Front.{lentAfter};
 ghost use Rattle.floats.specs.Values.{plusZero};
-ghost use Rattle.evaluating.specs.Asked.{asked, interrupted};
+ghost use Rattle.evaluating.specs.Asked.{asked, interrupted, inMode};
 ghost use Rattle.evaluating.specs.Series.{seriesOf, lengths, pointsOf};
 ghost use Rattle.evaluating.specs.Evaluating.{evaluated, noRoom, evaluateOf, seriesMarks};
 ghost use Rattle.evaluating.specs.Sigma.{figured, estimated, sigmaHatOf, sigmaHatDfOf, estimateOf};
@@ -168,11 +169,14 @@ pub fn points(chart: Chart) -> Lengths
 /// that reaches over a stop does not show its pattern, and only windows of length one hold a moving range that straddles
 /// one. The series and the limits are as without stops.
 ///
+/// `width` is the width mode of both series' marks (see [`rules::mark`]): 0, where one and two sigma below the centre line are as
+/// wide as above it, or 1, where each side has the widths of its own limit.
+///
 /// Refuses, in this order: a record that is no chart (14, `Record`), a chart that counts more stops than there are
-/// positions, or stops that do not rise strictly within 1 to the points of the main series less one (15, `Stops`), no
-/// subgroup or fewer than 2 observations (8, `TooFew`), a slice too short for its series (6, `TooShort`), stored values that
-/// are not all finite (3, `NotFinite`), points or limits that are not all finite (7, `Overflow`). At 7 all four slices are
-/// zero throughout; at any other refusal they are as they came.
+/// positions, or stops that do not rise strictly within 1 to the points of the main series less one (15, `Stops`), a width mode
+/// that is not 0 or 1 (21, `WidthMode`), no subgroup or fewer than 2 observations (8, `TooFew`), a slice too short for its
+/// series (6, `TooShort`), stored values that are not all finite (3, `NotFinite`), points or limits that are not all finite (7,
+/// `Overflow`). At 7 all four slices are zero throughout; at any other refusal they are as they came.
 ///
 /// A chart of kind 1 with three observations of 0.1 and the set shewhart has the limits 0.10000000000000002 three
 /// times over and 3 marks: its points lie below them.
@@ -180,12 +184,13 @@ pub fn evaluate(
     chart: Chart,
     values: &[f64],
     positions: &[usize],
+    width: u64,
     main: &mut [f64],
     dispersion: &mut [f64],
     main_marks: &mut [u16],
     dispersion_marks: &mut [u16],
 ) -> Evaluated
-    ensures answer { λ r. ⌜ evaluated r ≡ evaluateOf (interrupted (asked chart (now (values .entry))) (now (positions .entry)))
+    ensures answer { λ r. ⌜ evaluated r ≡ evaluateOf (inMode (interrupted (asked chart (now (values .entry))) (now (positions .entry))) width)
         (noRoom chart (length (now (main .entry))) (length (now (dispersion .entry)))
         (length (now («main_marks» .entry))) (length (now («dispersion_marks» .entry)))) ⌝ }
     ensures main { λ r. ⌜ now (main .exit)
@@ -193,9 +198,9 @@ pub fn evaluate(
     ensures dispersion { λ r. ⌜ now (dispersion .exit)
         ≡ lentAfter (evaluated r .number) plusZero (seriesOf (asked chart (now (values .entry))) 1) (now (dispersion .entry)) ⌝ }
     ensures main_marks { λ r. ⌜ now («main_marks» .exit)
-        ≡ lentAfter (evaluated r .number) 0 (seriesMarks (interrupted (asked chart (now (values .entry))) (now (positions .entry))) 0) (now («main_marks» .entry)) ⌝ }
+        ≡ lentAfter (evaluated r .number) 0 (seriesMarks (inMode (interrupted (asked chart (now (values .entry))) (now (positions .entry))) width) 0) (now («main_marks» .entry)) ⌝ }
     ensures dispersion_marks { λ r. ⌜ now («dispersion_marks» .exit)
-        ≡ lentAfter (evaluated r .number) 0 (seriesMarks (interrupted (asked chart (now (values .entry))) (now (positions .entry))) 1) (now («dispersion_marks» .entry)) ⌝ }
+        ≡ lentAfter (evaluated r .number) 0 (seriesMarks (inMode (interrupted (asked chart (now (values .entry))) (now (positions .entry))) width) 1) (now («dispersion_marks» .entry)) ⌝ }
 {
     let short = checks::no_room(
         chart,
@@ -205,12 +210,13 @@ pub fn evaluate(
         dispersion_marks.len(),
     );
     let wrong = checks::positions_wrong(chart, positions);
-    match checks::check(chart, values, wrong, short) {
+    match checks::check(chart, values, wrong, OWN_WIDTHS < width, short) {
         Tested::Refused(why) => Evaluated::Refused(why),
         Tested::Passed => checked::evaluate(
             chart,
             values,
             positions,
+            width,
             main,
             dispersion,
             main_marks,

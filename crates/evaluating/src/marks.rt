@@ -30,14 +30,15 @@ pub fn mark(
     stops: &[usize],
     moving: bool,
     limits: Limits,
+    width: u64,
     set: RuleSet,
     marks: &mut [u16],
 ) -> usize
-    requires { ⌜ answerOf (under limits (now stops) moving) (set .mask) (now points) (length (now marks)) ≡ 0 ⌝ }
-    ensures number { λ r. ⌜ (r ≡ numberOf (marksOf (under limits (now (stops .entry)) moving) (set .mask) (now (points .entry)))) × (r ≤ 65536) ⌝ }
-    ensures marks { λ r. ⌜ now (marks .exit) ≡ atFront (marksOf (under limits (now (stops .entry)) moving) (set .mask) (now (points .entry))) (now (marks .entry)) ⌝ }
+    requires { ⌜ answerOf (under limits width (now stops) moving) (set .mask) (now points) (length (now marks)) ≡ 0 ⌝ }
+    ensures number { λ r. ⌜ (r ≡ numberOf (marksOf (under limits width (now (stops .entry)) moving) (set .mask) (now (points .entry)))) × (r ≤ 65536) ⌝ }
+    ensures marks { λ r. ⌜ now (marks .exit) ≡ atFront (marksOf (under limits width (now (stops .entry)) moving) (set .mask) (now (points .entry))) (now (marks .entry)) ⌝ }
 {
     let n = points.len();
-    rules::mark(points, stops, moving, limits, set, marks);
+    rules::mark(points, stops, moving, limits, width, set, marks);
     count(&marks[0..n])
 }

@@ -43,7 +43,7 @@ pub fn centre(c: Chart, values: &[f64]) -> Figure
     ensures { λ r. ⌜ figured r
         ≡ unlessRefused (sigmaNumber (asked c (now (values .entry)))) (centreOf (asked c (now (values .entry))) 1) ⌝ }
 {
-    match checks::check(c, values, false, false) {
+    match checks::check(c, values, false, false, false) {
         Tested::Refused(why) => Figure::Refused(why),
         Tested::Passed => {
             let w = measure(c, values);

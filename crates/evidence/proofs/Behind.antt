@@ -25,12 +25,12 @@ use Rattle.stops.specs.Cuts.{unbroken}
 use Rattle.stops.proofs.Rising.{none-wrong}
 use Rattle.stops.proofs.Cuts.{no-stops}
 use Rattle.rules.specs.declared.Limits.{Limits}
-use Rattle.rules.specs.Terms.{Terms, unstopped}
-use Rattle.rules.specs.Lines.{linesOf}
+use Rattle.rules.specs.Terms.{Terms, alone}
+use Rattle.rules.specs.Lines.{widthWrong, linesOf}
 use Rattle.rules.specs.Tests.{window, shows}
 use Rattle.floats.specs.Finite.{finite, allFinite}
 use Rattle.rules.specs.Finite.{finiteLimits}
-use Rattle.rules.specs.Marking.{newestFirst, stands, marksAt, cutsOf, marksOf, answerOf, marksAfter}
+use Rattle.rules.specs.Marking.{newestFirst, stands, marksAt, cutsOf, linesFor, marksOf, answerOf, marksAfter}
 use Rattle.evidence.specs.Evidence.{shownAt}
 use Rattle.evidence.specs.Steps.{showsAlone, spanAt}
 use Rattle.rules.proofs.Columns.{window-most}
@@ -92,34 +92,34 @@ module _ (cut : ℕ → Bool) (values : List Float) (at n : ℕ) (next : n ≤ s
       ∙ ap allFinite (take-all n part (omega (arith, length-part h)))
 
 -- a window of the test's own length shows its pattern exactly where the test stands there
-module _ (limits : Limits) (t : Test) where
-  stands-alone : (values : List Float) → stands (linesOf limits) (newestFirst unbroken values (window t)) t ≡ shows t (linesOf limits) (newestFirst unbroken values (window t))
+module _ (width : ℕ) (limits : Limits) (t : Test) where
+  stands-alone : (values : List Float) → stands (linesOf width limits) (newestFirst unbroken values (window t)) t ≡ shows t (linesOf width limits) (newestFirst unbroken values (window t))
   unfolding stands
   stands-alone values =
       let w = newestFirst unbroken values (window t) in
       let long : length w ≡ window t = length-newest values (window t) in
-      ap₂ (λ (b : Bool) (x : List Float). b && shows t (linesOf limits) x) (le-leb (window t) (length w) (omega (arith, long)))
+      ap₂ (λ (b : Bool) (x : List Float). b && shows t (linesOf width limits) x) (le-leb (window t) (length w) (omega (arith, long)))
       (take-all (window t) w (omega (arith, long)))
 
   pub stands-behind : (cut : ℕ → Bool) (values : List Float) (at : ℕ) → window t ≤ suc at - since cut at
-      → stands (linesOf limits) (newestFirst cut values (suc at)) t ≡ shows t (linesOf limits) (newestFirst unbroken (partTo (window t) at values) (window t))
+      → stands (linesOf width limits) (newestFirst cut values (suc at)) t ≡ shows t (linesOf width limits) (newestFirst unbroken (partTo (window t) at values) (window t))
   unfolding stands
   stands-behind cut values at h =
       let past = newestFirst cut values (suc at) in
-      ap (λ (b : Bool). b && shows t (linesOf limits) (take (window t) past)) (le-leb (window t) (length past) (omega (arith, length-since cut values at)))
-      ∙ ap (λ (w : List Float). shows t (linesOf limits) w) (sym (part-newest cut values at (window t) h))
+      ap (λ (b : Bool). b && shows t (linesOf width limits) (take (window t) past)) (le-leb (window t) (length past) (omega (arith, length-since cut values at)))
+      ∙ ap (λ (w : List Float). shows t (linesOf width limits) w) (sym (part-newest cut values at (window t) h))
 
   -- ---- the mark of a set with this test alone
 
   pub mark-alone : (values : List Float) (i : ℕ) → suc i ≡ window t
-      → not (eqb (marksAt unbroken (linesOf limits) (2 ^ bitOf t) values i) 0) ≡ shows t (linesOf limits) (newestFirst unbroken values (window t))
+      → not (eqb (marksAt unbroken (linesOf width limits) (2 ^ bitOf t) values i) 0) ≡ shows t (linesOf width limits) (newestFirst unbroken values (window t))
   unfolding marksAt
   mark-alone values i e =
-      let p : Test → Bool = stands (linesOf limits) (newestFirst unbroken values (suc i)) in
+      let p : Test → Bool = stands (linesOf width limits) (newestFirst unbroken values (suc i)) in
       ap (λ (m : ℕ). not (eqb m 0)) (sym (and-setOf (2 ^ bitOf t) p) ∙ and-comm (2 ^ bitOf t) (setOf p))
       ∙ test-pow (setOf p) (bitOf t)
       ∙ unfold has in has-setOf p t
-      ∙ ap (λ (k : ℕ). stands (linesOf limits) (newestFirst unbroken values k) t) e
+      ∙ ap (λ (k : ℕ). stands (linesOf width limits) (newestFirst unbroken values k) t) e
       ∙ stands-alone values
 
 -- ---- the window marked as a series of its own
@@ -132,28 +132,29 @@ window-least t = leb-true 1 (window t) (agree (λ (u : Test). leb 1 (window u)) 
 pub part-bounds : (t : Test) (part : List Float) → length part ≡ window t → (1 ≤ length part) × (length part ≤ 15)
 part-bounds t part long = (omega (arith, window-least t), omega (arith, window-most t))
 
-module _ (limits : Limits) (t : Test) (part : List Float) (long : length part ≡ window t) (set : ℕ) (alone : set ≡ 2 ^ bitOf t) where
+module _ (limits : Limits) (width : ℕ) (t : Test) (part : List Float) (long : length part ≡ window t) (set : ℕ) (one : set ≡ 2 ^ bitOf t) where
   -- by itself it has no stops
   abbrev terms : Terms
-  terms = unstopped limits
+  terms = alone limits width
 
-  -- only the finite decide whether it is refused
-  by-finite : answerOf terms set part 15 ≡ cond (finiteLimits limits && allFinite part) 0 3
+  -- the mode and the finite decide whether it is refused
+  by-finite : answerOf terms set part 15 ≡ cond (widthWrong width) 21 (cond (finiteLimits limits && allFinite part) 0 3)
   by-finite =
       let small : 2 ^ bitOf t < 2 ^ 9 = pow-lt (bitOf-lt t) in
       let few = part-bounds t part long .1 in
       room-enough terms set part 15 (λ h. few) ∙ only-finite terms set part (omega arith) (none-wrong (length part)) (omega arith)
 
-  pub refused-alone : (answerOf terms set part 15 ≡ 0 → ⊥) → false ≡ showsAlone limits t part
-  refused-alone h = by (finiteLimits limits) (allFinite part) _ by-finite
+  pub refused-alone : (answerOf terms set part 15 ≡ 0 → ⊥) → false ≡ showsAlone limits width t part
+  refused-alone h = by (widthWrong width) (finiteLimits limits) (allFinite part) _ by-finite
     where
-      by : (f a x : Bool) → answerOf terms set part 15 ≡ cond (f && a) 0 3 → false ≡ (f && (a && x))
-      by true true x e = absurd (h e)
-      by true false x e = refl
-      by false a x e = refl
+      by : (w f a x : Bool) → answerOf terms set part 15 ≡ cond w 21 (cond (f && a) 0 3) → false ≡ (not w && (f && (a && x)))
+      by true f a x e = refl
+      by false true true x e = absurd (h e)
+      by false true false x e = refl
+      by false false a x e = refl
 
   last-mark : answerOf terms set part 15 ≡ 0
-      → not (eqb (getD (marksAfter terms set part (replicate 15 0)) (length part - 1) 0) 0) ≡ shows t (linesOf limits) (newestFirst unbroken part (length part))
+      → not (eqb (getD (marksAfter terms set part (replicate 15 0)) (length part - 1) 0) 0) ≡ shows t (linesOf width limits) (newestFirst unbroken part (length part))
   unfolding marksAfter
   last-mark e =
       let old = replicate {A = ℕ} 15 0 in
@@ -164,18 +165,19 @@ module _ (limits : Limits) (t : Test) (part : List Float) (long : length part �
       let within : i < length marks = omega (arith, length-marks terms set part) in
       ap (λ (b : Bool). not (eqb (getD (cond b (atFront marks old) old) i 0) 0)) (eq-eqb _ _ e)
       ∙ ap (λ (m : ℕ). not (eqb m 0)) (List·getD-append marks (drop (length marks) old) 0 i within ∙ marks-at terms set part i (omega arith))
-      ∙ ap₂ (λ (cut : ℕ → Bool) (k : ℕ). not (eqb (marksAt cut (linesOf limits) k part i) 0)) (no-stops false) alone
-      ∙ mark-alone limits t part i last
-      ∙ ap (λ (k : ℕ). shows t (linesOf limits) (newestFirst unbroken part k)) (sym long)
+      ∙ ap₂ (λ (cut : ℕ → Bool) (k : ℕ). not (eqb (marksAt cut (linesOf width limits) k part i) 0)) (no-stops false) one
+      ∙ mark-alone width limits t part i last
+      ∙ ap (λ (k : ℕ). shows t (linesOf width limits) (newestFirst unbroken part k)) (sym long)
 
   pub marked-alone : answerOf terms set part 15 ≡ 0
-      → not (eqb (getD (marksAfter terms set part (replicate 15 0)) (length part - 1) 0) 0) ≡ showsAlone limits t part
-  marked-alone done = by (finiteLimits limits) (allFinite part) _ _ by-finite (last-mark done)
+      → not (eqb (getD (marksAfter terms set part (replicate 15 0)) (length part - 1) 0) 0) ≡ showsAlone limits width t part
+  marked-alone done = by (widthWrong width) (finiteLimits limits) (allFinite part) _ _ by-finite (last-mark done)
     where
-      by : (f a x y : Bool) → answerOf terms set part 15 ≡ cond (f && a) 0 3 → y ≡ x → y ≡ (f && (a && x))
-      by true true x y e is = is
-      by true false x y e is = absurd (omega arith)
-      by false a x y e is = absurd (omega arith)
+      by : (w f a x y : Bool) → answerOf terms set part 15 ≡ cond w 21 (cond (f && a) 0 3) → y ≡ x → y ≡ (not w && (f && (a && x)))
+      by true f a x y e is = absurd (omega arith)
+      by false true true x y e is = is
+      by false true false x y e is = absurd (omega arith)
+      by false false a x y e is = absurd (omega arith)
 
 -- ---- what is shown at a position
 
@@ -188,6 +190,10 @@ module _ (series : List Float) (terms : Terms) (at bit : ℕ) where
   unfolding shownAt tests
   no-such-test e = simp (le-ltb bit 9 (was-nothing bit e), and-false)
 
+  pub mode-is-wrong : widthWrong (terms .width) ≡ true → shownAt series terms at bit ≡ false
+  unfolding shownAt
+  mode-is-wrong e = simp (e, and-false)
+
   pub stops-are-wrong : stopsWrong (mainPoints (terms .moving) (length series)) (terms .stops) ≡ true → shownAt series terms at bit ≡ false
   unfolding shownAt
   stops-are-wrong e = simp (e, and-false)
@@ -195,14 +201,15 @@ module _ (series : List Float) (terms : Terms) (at bit : ℕ) where
   shown-by-window : at < length series → stopsWrong (mainPoints (terms .moving) (length series)) (terms .stops) ≡ false → bit < 9
       → window (testOf bit) ≤ suc at - since (cutsOf terms) at
       → shownAt series terms at bit
-      ≡ (finiteLimits (terms .limits)
+      ≡ (not (widthWrong (terms .width))
+      && (finiteLimits (terms .limits)
       && (allFinite (partTo (window (testOf bit)) at series)
-      && shows (testOf bit) (linesOf (terms .limits)) (newestFirst unbroken (partTo (window (testOf bit)) at series) (window (testOf bit)))))
+      && shows (testOf bit) (linesFor terms) (newestFirst unbroken (partTo (window (testOf bit)) at series) (window (testOf bit))))))
   unfolding shownAt tests
   shown-by-window h g k w =
       simp (lt-ltb at (length series) h, lt-ltb bit 9 k, g)
-      (ap₂ (λ (a b : Bool). finiteLimits (terms .limits) && (a && b)) (part-finite (cutsOf terms) series at (window (testOf bit)) w h)
-      (stands-behind (terms .limits) (testOf bit) (cutsOf terms) series at w))
+      (ap₂ (λ (a b : Bool). not (widthWrong (terms .width)) && (finiteLimits (terms .limits) && (a && b))) (part-finite (cutsOf terms) series at (window (testOf bit)) w h)
+      (stands-behind (terms .width) (terms .limits) (testOf bit) (cutsOf terms) series at w))
 
   pub no-span : shownAt series terms at bit ≡ false → spanAt series terms at bit ≡ record { start = 0; end = 0 }
   unfolding spanAt
@@ -224,16 +231,16 @@ module _ (series : List Float) (terms : Terms) (at bit : ℕ) where
 
     pub shown-by-part : at < length series → stopsWrong (mainPoints (terms .moving) (length series)) (terms .stops) ≡ false
         → n ≤ suc at - since (cutsOf terms) at
-        → showsAlone (terms .limits) t (take (at + 1 - (at + 1 - n)) (drop (at + 1 - n) series)) ≡ shownAt series terms at bit
+        → showsAlone (terms .limits) (terms .width) t (take (at + 1 - (at + 1 - n)) (drop (at + 1 - n) series)) ≡ shownAt series terms at bit
     shown-by-part h g w =
         let m = window (testOf bit) in
         let next : m ≤ suc at - since (cutsOf terms) at = omega (arith, longs) in
         let length-is : at + 1 - (at + 1 - n) ≡ m = omega (arith, longs) in
         let start : at + 1 - n ≡ suc at - m = omega (arith, longs) in
-        ap (λ (u : Test). showsAlone (terms .limits) u (take (at + 1 - (at + 1 - n)) (drop (at + 1 - n) series))) (sym same)
-        ∙ ap (showsAlone (terms .limits) (testOf bit)) (ap₂ (λ (x y : ℕ). take x (drop y series)) length-is start)
-        ∙ ap (λ (k : ℕ). finiteLimits (terms .limits)
-        && (allFinite (partTo m at series) && shows (testOf bit) (linesOf (terms .limits)) (newestFirst unbroken (partTo m at series) k)))
+        ap (λ (u : Test). showsAlone (terms .limits) (terms .width) u (take (at + 1 - (at + 1 - n)) (drop (at + 1 - n) series))) (sym same)
+        ∙ ap (showsAlone (terms .limits) (terms .width) (testOf bit)) (ap₂ (λ (x y : ℕ). take x (drop y series)) length-is start)
+        ∙ ap (λ (k : ℕ). not (widthWrong (terms .width)) && (finiteLimits (terms .limits)
+        && (allFinite (partTo m at series) && shows (testOf bit) (linesFor terms) (newestFirst unbroken (partTo m at series) k))))
         (length-part (cutsOf terms) series at m next h)
         ∙ sym (shown-by-window h g (was-found bit t is .0) next)
 

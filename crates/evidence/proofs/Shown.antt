@@ -1,11 +1,11 @@
 -- What evidence says of marks: of a series that marking takes, the window is shown exactly where the mark stands; and nothing is shown where
--- the stops are wrong. Assumes nothing.
+-- the stops or the width mode are wrong. Assumes nothing.
 use mathlib.Core.Path.{_≡_, refl, sym, ap, ap₂, _∙_}
 use mathlib.Core.Bool.{Bool, true, false, _&&_, cond, and-false}
 use mathlib.Core.List.{List, [], _∷_}
 use Prim.Native.Nat.{ℕ, zero, suc, _≤_, _<_}
 use native.Mathlib.Omega.{arith}
-use borrow.Author.Tests.{lt-ltb}
+use borrow.Author.Tests.{lt-ltb, le-ltb}
 use lib.Dec.{eqb}
 use lib.Ieee.{Float}
 use lib.ListN.{length, take, getD}
@@ -16,13 +16,13 @@ use Rattle.floats.proofs.AllFinite.{finite-at}
 use Rattle.stops.specs.Stops.{stopsWrong, mainPoints}
 use Rattle.sets.specs.Sets.{tests, testOf, has}
 use Rattle.rules.specs.Tests.{window}
-use Rattle.rules.specs.Lines.{linesOf}
+use Rattle.rules.specs.Lines.{widthWrong}
 use Rattle.rules.specs.Terms.{Terms}
-use Rattle.rules.specs.Marking.{newestFirst, stands, cutsOf, marksOf}
+use Rattle.rules.specs.Marking.{newestFirst, stands, cutsOf, linesFor, marksOf}
 use Rattle.rules.proofs.Meaning.{marked, marks-at}
 use Rattle.rules.proofs.Accepted.{Accepted}
 use Rattle.evidence.specs.Evidence.{nothing, shownAt, evidenceOf}
-use Rattle.evidence.proofs.Behind.{stops-are-wrong}
+use Rattle.evidence.proofs.Behind.{mode-is-wrong, stops-are-wrong}
 
 -- ---- finite values are finite in any window
 
@@ -53,10 +53,10 @@ shown-where-marked terms set series taken at bit h k its =
     let t = testOf bit in
     let past = newestFirst (cutsOf terms) series (suc at) in
     let all : allFinite (take (window t) past) ≡ true = finite-take (window t) past (finite-newest (cutsOf terms) series (taken .finite) (suc at) h) in
-    simp (lt-ltb at (length series) h, lt-ltb bit 9 k, taken .stopped, taken .sound, all)
+    simp (lt-ltb at (length series) h, lt-ltb bit 9 k, taken .stopped, le-ltb 1 (terms .width) (taken .mode), taken .sound, all)
     (sym (ap (λ (m : ℕ). has m t) (marks-at terms set series at h)
-    ∙ marked (cutsOf terms) (linesOf (terms .limits)) set series at t
-    ∙ ap (λ (b : Bool). b && stands (linesOf (terms .limits)) past t) its))
+    ∙ marked (cutsOf terms) (linesFor terms) set series at t
+    ∙ ap (λ (b : Bool). b && stands (linesFor terms) past t) its))
 
 -- ---- "evidence gives its empty part for bad stops" (02, R-1), wherever they lie
 
@@ -66,3 +66,11 @@ pub nothing-for-bad-stops : (main dispersion : List Float) (number : ℕ) (terms
 unfolding evidenceOf
 nothing-for-bad-stops main dispersion number terms at bit wrong =
     simp (stops-are-wrong (cond (eqb number 0) main dispersion) terms at bit wrong, and-false)
+
+-- ---- "evidence gives its empty part" for a mode that is not 0 or 1 (02, R-5)
+
+pub nothing-for-a-bad-mode : (main dispersion : List Float) (number : ℕ) (terms : Terms) (at bit : ℕ)
+    → widthWrong (terms .width) ≡ true → evidenceOf main dispersion number terms at bit ≡ nothing
+unfolding evidenceOf
+nothing-for-a-bad-mode main dispersion number terms at bit wrong =
+    simp (mode-is-wrong (cond (eqb number 0) main dispersion) terms at bit wrong, and-false)

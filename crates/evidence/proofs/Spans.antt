@@ -12,6 +12,7 @@ use Rattle.laws.proofs.Bools.{both}
 use Rattle.sets.specs.Sets.{tests, testOf}
 use Rattle.stops.specs.Stops.{stopsWrong, mainPoints}
 use Rattle.rules.specs.Terms.{Terms}
+use Rattle.rules.specs.Lines.{widthWrong}
 use Rattle.evidence.specs.declared.Span.{Span}
 use Rattle.rules.specs.Tests.{window}
 use Rattle.floats.specs.Finite.{allFinite}
@@ -34,7 +35,8 @@ module _ (series : List Float) (terms : Terms) (at bit : ℕ) where
       let in-range = both (ltb at (length series)) _ h .1 in
       let sound = both (ltb bit (length tests)) _ in-range .1 in
       let stopped = both (not (stopsWrong (mainPoints (terms .moving) (length series)) (terms .stops))) _ sound .1 in
-      let finite = both (finiteLimits (terms .limits)) _ stopped .1 in
+      let mode = both (not (widthWrong (terms .width))) _ stopped .1 in
+      let finite = both (finiteLimits (terms .limits)) _ mode .1 in
       let there = both (allFinite (take w past)) _ finite .1 in
       let fits : leb w (length past) ≡ true = both (leb w (length past)) _ there .0 in
       omega (arith, leb-true w (length past) fits, length-since (cutsOf terms) series at)

@@ -1,4 +1,4 @@
--- The window behind a mark (01, 'The mark sheet', Evidence; 02, R-1). Definitions only.
+-- The window behind a mark (01, 'The mark sheet', Evidence; 02, R-1 and R-5). Definitions only.
 use mathlib.Core.Path.{_≡_}
 use mathlib.Core.Bool.{Bool, false, not, _&&_, cond}
 use mathlib.Core.List.{List}
@@ -10,11 +10,11 @@ use lib.ListN.{length, take, drop}
 use Rattle.stops.specs.Stops.{stopsWrong, mainPoints}
 use Rattle.sets.specs.Sets.{tests, testOf}
 use Rattle.rules.specs.Terms.{Terms}
-use Rattle.rules.specs.Lines.{linesOf}
+use Rattle.rules.specs.Lines.{widthWrong}
 use Rattle.rules.specs.Tests.{window}
 use Rattle.floats.specs.Finite.{allFinite}
 use Rattle.rules.specs.Finite.{finiteLimits}
-use Rattle.rules.specs.Marking.{newestFirst, stands, cutsOf}
+use Rattle.rules.specs.Marking.{newestFirst, stands, cutsOf, linesFor}
 
 -- a part of one of two series: of which, where it starts, how long it is
 pub record Part : Type 0 where
@@ -26,16 +26,17 @@ pub record Part : Type 0 where
 abbrev pub nothing : Part
 nothing = record { second = false; start = 0; long = 0 }
 
--- The position and the test are in range, the stops are some of the series, the limits and the window's values are finite, the window fits
--- and shows the pattern.
+-- The position and the test are in range, the stops are some of the series, the width mode is one, the limits and the window's values are
+-- finite, the window fits and shows the pattern.
 unfoldable pub shownAt : List Float → Terms → ℕ → ℕ → Bool
 shownAt series terms at bit =
     ltb at (length series)
     && (ltb bit (length tests)
     && (not (stopsWrong (mainPoints (terms .moving) (length series)) (terms .stops))
+    && (not (widthWrong (terms .width))
     && (finiteLimits (terms .limits)
     && (allFinite (take (window (testOf bit)) (newestFirst (cutsOf terms) series (suc at)))
-    && stands (linesOf (terms .limits)) (newestFirst (cutsOf terms) series (suc at)) (testOf bit)))))
+    && stands (linesFor terms) (newestFirst (cutsOf terms) series (suc at)) (testOf bit))))))
 
 -- the window that ends at the position, of the series of that number, 0 or 1
 unfoldable pub evidenceOf : List Float → List Float → ℕ → Terms → ℕ → ℕ → Part

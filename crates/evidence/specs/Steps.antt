@@ -1,5 +1,5 @@
 -- What the parts of evidence find. Nothing here has to be believed: the proofs tie it to Evidence.antt. Definitions only.
-use mathlib.Core.Bool.{Bool, _&&_, cond}
+use mathlib.Core.Bool.{Bool, not, _&&_, cond}
 use mathlib.Core.List.{List}
 use Prim.Native.Nat.{ℕ, suc, _-_}
 use lib.Ieee.{Float}
@@ -10,16 +10,18 @@ use Rattle.stops.specs.Cuts.{unbroken}
 use Rattle.rules.specs.declared.Limits.{Limits}
 use Rattle.rules.specs.Terms.{Terms}
 use Rattle.evidence.specs.declared.Span.{Span}
-use Rattle.rules.specs.Lines.{linesOf}
+use Rattle.rules.specs.Lines.{widthWrong, linesOf}
 use Rattle.rules.specs.Tests.{window, shows}
 use Rattle.floats.specs.Finite.{allFinite}
 use Rattle.rules.specs.Finite.{finiteLimits}
 use Rattle.rules.specs.Marking.{newestFirst}
 use Rattle.evidence.specs.Evidence.{shownAt}
 
--- the values of a window and the limits are finite, and it shows the pattern
-abbrev pub showsAlone : Limits → Test → List Float → Bool
-showsAlone limits t part = finiteLimits limits && (allFinite part && shows t (linesOf limits) (newestFirst unbroken part (length part)))
+-- the width mode is one, the values of a window and the limits are finite, and it shows the pattern
+abbrev pub showsAlone : Limits → ℕ → Test → List Float → Bool
+showsAlone limits width t part =
+    not (widthWrong width)
+    && (finiteLimits limits && (allFinite part && shows t (linesOf width limits) (newestFirst unbroken part (length part))))
 
 -- where it starts and ends in its series, or 0 and 0 where there is none
 unfoldable pub spanAt : List Float → Terms → ℕ → ℕ → Span

@@ -12,15 +12,15 @@ ghost use Rattle.rules.specs.Tests.{window};
 ghost use Rattle.evidence.specs.Evidence.{evidenceOf, IsPart};
 ghost use Rattle.evidence.specs.Steps.{showsAlone, spanAt};
 
-// Whether a window of a test's length shows its pattern, its values and the limits being finite: the window is marked
-// as a series of its own, by a set with this test alone.
-fn shows_pattern(part: &[f64], limits: Limits, t: Test) -> bool
+// Whether a window of a test's length shows its pattern, the width mode being one and its values and the limits finite: the
+// window is marked as a series of its own, by a set with this test alone.
+fn shows_pattern(part: &[f64], limits: Limits, width: u64, t: Test) -> bool
     requires { ⌜ length (now part) ≡ window t ⌝ }
-    ensures { λ r. ⌜ r ≡ showsAlone limits t (now (part .entry)) ⌝ }
+    ensures { λ r. ⌜ r ≡ showsAlone limits width t (now (part .entry)) ⌝ }
 {
     let mut marks = [0u16; 15];
     let set = RuleSet { mask: 1 << t.bit() };
-    let answered = mark(part, &[], false, limits, set, &mut marks);
+    let answered = mark(part, &[], false, limits, width, set, &mut marks);
     if answered.number() != 0 {
         return false;
     }
@@ -39,10 +39,11 @@ fn span_at(
     stops: &[usize],
     moving: bool,
     limits: Limits,
+    width: u64,
     at: usize,
     bit: u64,
 ) -> Span
-    ensures { λ r. ⌜ (r ≡ spanAt (now (series .entry)) (under limits (now (stops .entry)) moving) at bit) × (r .start ≤ r .end) × (r .end ≤ length (now (series .entry))) ⌝ }
+    ensures { λ r. ⌜ (r ≡ spanAt (now (series .entry)) (under limits width (now (stops .entry)) moving) at bit) × (r .start ≤ r .end) × (r .end ≤ length (now (series .entry))) ⌝ }
 {
     if series.len() <= at {
         return Span { start: 0, end: 0 };
@@ -62,7 +63,7 @@ fn span_at(
     if start < stops::since(stops, moving, at) {
         return Span { start: 0, end: 0 };
     }
-    if shows_pattern(&series[start..end], limits, t) {
+    if shows_pattern(&series[start..end], limits, width, t) {
         return Span { start, end };
     }
     Span { start: 0, end: 0 }
@@ -72,13 +73,14 @@ fn span_at(
 /// test with the bit number `bit`.
 ///
 /// `series` is 0 for `main` and 1 for `dispersion`, and `limits` are those of that series; `moving` says whether it is one of
-/// moving ranges, and `stops` are those of its main series. The part is one of the lent series itself, not a copy.
+/// moving ranges, `stops` are those of its main series, and `width` is the width mode (see [`rules::mark`]). The part is one of
+/// the lent series itself, not a copy.
 ///
 /// # Refusals
 ///
 /// The empty part at the front of `main` where the series' number, the position or the bit number is out of range, the
-/// stops, wherever they lie, are none of the series (see [`stops::wrong`]), the window does not fit or reaches over a stop,
-/// its values or the limits are not all finite, or it does not show the pattern.
+/// stops, wherever they lie, are none of the series (see [`stops::wrong`]), the width mode is not 0 or 1, the window does not fit
+/// or reaches over a stop, its values or the limits are not all finite, or it does not show the pattern.
 ///
 /// # Example
 ///
@@ -92,19 +94,20 @@ pub fn evidence<'a>(
     stops: &[usize],
     moving: bool,
     limits: Limits,
+    width: u64,
     at: usize,
     bit: u64,
 ) -> &'a [f64]
-    ensures { λ r. ⌜ IsPart (main .entry) (dispersion .entry) r (evidenceOf (now (main .entry)) (now (dispersion .entry)) series (under limits (now (stops .entry)) moving) at bit) ⌝ }
+    ensures { λ r. ⌜ IsPart (main .entry) (dispersion .entry) r (evidenceOf (now (main .entry)) (now (dispersion .entry)) series (under limits width (now (stops .entry)) moving) at bit) ⌝ }
 {
     if series == 0 {
-        let span = span_at(main, stops, moving, limits, at, bit);
+        let span = span_at(main, stops, moving, limits, width, at, bit);
         let start = span.start;
         let end = span.end;
         return &main[start..end];
     }
     if series == 1 {
-        let span = span_at(dispersion, stops, moving, limits, at, bit);
+        let span = span_at(dispersion, stops, moving, limits, width, at, bit);
         let start = span.start;
         let end = span.end;
         if end == 0 {

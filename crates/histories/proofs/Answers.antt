@@ -16,8 +16,8 @@ use Rattle.sets.specs.Sets.{tooLarge}
 use Rattle.stops.specs.Stops.{rising, stopsWrong}
 use Rattle.rules.specs.declared.Limits.{Limits}
 use Rattle.rules.specs.Finite.{finiteLimits}
-use Rattle.rules.specs.Lines.{linesOf}
-use Rattle.rules.specs.Terms.{unstopped}
+use Rattle.rules.specs.Lines.{widthWrong, linesOf}
+use Rattle.rules.specs.Terms.{alone}
 use Rattle.rules.specs.Marking.{number, ahead, refusal}
 use Rattle.rules.proofs.Accepted.{ahead-numbers}
 use Rattle.rules.proofs.Answers.{refusalOf, refusal-again, number-above}
@@ -30,40 +30,46 @@ use Rattle.histories.specs.Taking.{answered, Outcome, taken, unchanged, 
 
 -- ---- refusals
 
-module _ (limits : Limits) (set : ℕ) (lane : Lane) (v : Float) where
-  -- 4, 3 for limits, 3 for the value
-  pub in-order : takeValue limits set lane v
+module _ (limits : Limits) (width set : ℕ) (lane : Lane) (v : Float) where
+  -- 4, 21, 3 for limits, 3 for the value
+  pub in-order : takeValue limits width set lane v
       ≡ firstOf
-      ((tooLarge set, unchanged lane 4) ∷ (not (finiteLimits limits), unchanged lane 3) ∷ (not (finite v), unchanged lane 3) ∷ [])
-      (marked set (after (linesOf limits) lane v))
+      ((tooLarge set, unchanged lane 4) ∷ (widthWrong width, unchanged lane 21)
+      ∷ (not (finiteLimits limits), unchanged lane 3) ∷ (not (finite v), unchanged lane 3) ∷ [])
+      (marked set (after (linesOf width limits) lane v))
   unfolding takeValue ahead each firstOf stopsWrong rising allFinite every
   in-order = simp (and-true)
 
-  pub set-refused : 511 < set → takeValue limits set lane v ≡ unchanged lane 4
+  pub set-refused : 511 < set → takeValue limits width set lane v ≡ unchanged lane 4
   unfolding firstOf
   set-refused large = in-order ∙ simp (lt-ltb 511 set large)
 
   module _ (small : set ≤ 511) where
-    pub limits-refused : finiteLimits limits ≡ false → takeValue limits set lane v ≡ unchanged lane 3
+    pub mode-refused : 1 < width → takeValue limits width set lane v ≡ unchanged lane 21
     unfolding firstOf
-    limits-refused unsound = in-order ∙ simp (le-ltb 511 set small, unsound)
+    mode-refused large = in-order ∙ simp (le-ltb 511 set small, lt-ltb 1 width large)
 
-    module _ (sound : finiteLimits limits ≡ true) where
-      pub value-refused : finite v ≡ false → takeValue limits set lane v ≡ unchanged lane 3
+    module _ (mode : width ≤ 1) where
+      pub limits-refused : finiteLimits limits ≡ false → takeValue limits width set lane v ≡ unchanged lane 3
       unfolding firstOf
-      value-refused unsound = in-order ∙ simp (le-ltb 511 set small, sound, unsound)
+      limits-refused unsound = in-order ∙ simp (le-ltb 511 set small, le-ltb 1 width mode, unsound)
 
-      pub value-taken : finite v ≡ true → takeValue limits set lane v ≡ marked set (after (linesOf limits) lane v)
-      unfolding firstOf
-      value-taken is = in-order ∙ simp (le-ltb 511 set small, sound, is)
+      module _ (sound : finiteLimits limits ≡ true) where
+        pub value-refused : finite v ≡ false → takeValue limits width set lane v ≡ unchanged lane 3
+        unfolding firstOf
+        value-refused unsound = in-order ∙ simp (le-ltb 511 set small, le-ltb 1 width mode, sound, unsound)
+
+        pub value-taken : finite v ≡ true → takeValue limits width set lane v ≡ marked set (after (linesOf width limits) lane v)
+        unfolding firstOf
+        value-taken is = in-order ∙ simp (le-ltb 511 set small, le-ltb 1 width mode, sound, is)
 
   -- a value that is refused changes nothing
-  pub take-is : takeValue limits set lane v
-      ≡ cond (eqb (refusal (unstopped limits) set (v ∷ [])) 0) (marked set (after (linesOf limits) lane v)) (unchanged lane (refusal (unstopped limits) set (v ∷ [])))
+  pub take-is : takeValue limits width set lane v
+      ≡ cond (eqb (refusal (alone limits width) set (v ∷ [])) 0) (marked set (after (linesOf width limits) lane v)) (unchanged lane (refusal (alone limits width) set (v ∷ [])))
   unfolding takeValue
   take-is =
-      each-first (unchanged lane) (ahead (unstopped limits) set (v ∷ [])) (marked set (after (linesOf limits) lane v))
-      (ahead-numbers (unstopped limits) set (v ∷ []))
+      each-first (unchanged lane) (ahead (alone limits width) set (v ∷ [])) (marked set (after (linesOf width limits) lane v))
+      (ahead-numbers (alone limits width) set (v ∷ []))
 
 -- ---- an answer is known by its numbers
 

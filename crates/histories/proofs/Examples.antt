@@ -29,7 +29,7 @@ abbrev usual : Limits
 usual = record { ucl = ofBits binary64 0x403c000000000000; cl = ofBits binary64 0x4039000000000000; lcl = ofBits binary64 0x4036000000000000 }
 
 abbrev marksWith : List ℕ → List ℕ
-marksWith stops = tabulate (λ i. outcomeAt (under usual stops false) 255 (replicate 9 (ofBits binary64 0x403a800000000000)) i .1) 9
+marksWith stops = tabulate (λ i. outcomeAt (under usual 0 stops false) 255 (replicate 9 (ofBits binary64 0x403a800000000000)) i .1) 9
 
 -- as marking has them: without stops, and with a fresh start before position 3
 value-by-value : (marksWith [] ≡ 0 ∷ 0 ∷ 0 ∷ 0 ∷ 32 ∷ 32 ∷ 32 ∷ 160 ∷ 162 ∷ [])
@@ -44,13 +44,13 @@ value-by-value = (refl, refl)
 abbrev forgery : Lane
 forgery = laneOf (λ s. 65535) nan 40000
 
-forged-answer : takeValue usual 305 forgery (ofBits binary64 0x4039000000000000) .1 ≡ 48
+forged-answer : takeValue usual 0 305 forgery (ofBits binary64 0x4039000000000000) .1 ≡ 48
 unfolding takeValue ahead each firstOf stopsWrong rising tabulateFrom allFinite finite finiteLimits every count marksAt shown
     judge byTurns ruleOf upOf downOf kept pushed after signs steps window tests bitOf has setOf hasBit fromBits linesOf oneSigma twoSigma
     ofBits add sub mul div lt le
 forged-answer = refl
 
--- 4 comes before 3, and the lane is as it was
-in-order-refused : takeValue usual 512 forgery nan ≡ unchanged forgery 4
+-- 4 comes before 21 and 3, and the lane is as it was
+in-order-refused : takeValue usual 2 512 forgery nan ≡ unchanged forgery 4
 unfolding takeValue ahead each firstOf stopsWrong rising every
 in-order-refused = refl

@@ -1,4 +1,4 @@
--- What taking a value answers (02, R-3). Definitions only.
+-- What taking a value answers (02, R-3 and R-5). Definitions only.
 use mathlib.Core.Bool.{Bool, _&&_}
 use mathlib.Core.List.{[], _∷_}
 use Prim.Native.Nat.{ℕ}
@@ -8,7 +8,7 @@ use Rattle.laws.specs.Refusals.{firstOf, each}
 use Rattle.sets.specs.declared.Test.{Test}
 use Rattle.sets.specs.Sets.{has, setOf}
 use Rattle.rules.specs.declared.Limits.{Limits}
-use Rattle.rules.specs.Terms.{unstopped}
+use Rattle.rules.specs.Terms.{alone}
 use Rattle.rules.specs.Lines.{linesOf}
 use Rattle.rules.specs.Tests.{window}
 use Rattle.rules.specs.Marking.{number, ahead}
@@ -55,9 +55,10 @@ unchanged lane n = (n, 0, lane)
 abbrev pub marked : ℕ → Lane → Outcome
 marked set lane = (0, marksAt set lane, lane)
 
--- "Refusals: 3 and 4, in marking's order": marking's own of the series of this value alone, to which 5 and 15 do not apply
-unfoldable pub takeValue : Limits → ℕ → Lane → Float → Outcome
-takeValue limits set lane v =
+-- "Refusals: 3 and 4, in marking's order", and 21 "directly after 4" (R-5): marking's own of the series of this value alone, to which 5 and
+-- 15 do not apply
+unfoldable pub takeValue : Limits → ℕ → ℕ → Lane → Float → Outcome
+takeValue limits width set lane v =
     firstOf
-    (each (unchanged lane) (ahead (unstopped limits) set (v ∷ [])))
-    (marked set (after (linesOf limits) lane v))
+    (each (unchanged lane) (ahead (alone limits width) set (v ∷ [])))
+    (marked set (after (linesOf width limits) lane v))

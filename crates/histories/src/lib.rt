@@ -4,6 +4,7 @@ mod reading;
 
 use rules::Limits;
 use rules::Lines;
+use rules::OWN_WIDTHS;
 use rules::Refusal;
 use sets::RuleSet;
 ghost use mathlib.Core.Path.{_≡_};
@@ -156,14 +157,14 @@ impl Lane {
 
     /// Takes one value more, and marks it: test b of the set is set in bit b of the marks exactly where the window of the test
     /// that ends at the value fits and shows the test's pattern, among the values taken since [`Lane::start`] under these same
-    /// limits. They may be any number; the set may be another at each.
+    /// limits and by this same width mode, which [`rules::mark`] explains. They may be any number; the set may be another at each.
     ///
     /// Gives `Marks` with the marks, and the lane after the value.
     ///
     /// # Refusals
     ///
-    /// In marking's order, with the lane as it was: a set over 511 (4), limits that are not all finite (3), a value that is not
-    /// finite (3).
+    /// In marking's order, with the lane as it was: a set over 511 (4), a width mode that is not 0 or 1 (21), limits that are not
+    /// all finite (3), a value that is not finite (3).
     ///
     /// # Example
     ///
@@ -172,15 +173,18 @@ impl Lane {
     ///
     /// ```
     /// let limits = Limits { ucl: 28.0, cl: 25.0, lcl: 22.0 };
-    /// let taken = Lane::start().take(26.5, limits, RuleSet::nelson());   // Answer::Marks(0)
-    /// let taken = taken.lane.take(26.5, limits, RuleSet::nelson());      // Answer::Marks(0)
+    /// let taken = Lane::start().take(26.5, limits, 0, RuleSet::nelson());   // Answer::Marks(0)
+    /// let taken = taken.lane.take(26.5, limits, 0, RuleSet::nelson());      // Answer::Marks(0)
     /// ```
-    pub fn take(self, value: f64, limits: Limits, set: RuleSet) -> Taken
-        ensures { λ r. ⌜ taken r ≡ takeValue limits (set .mask) self value ⌝ }
+    pub fn take(self, value: f64, limits: Limits, width: u64, set: RuleSet) -> Taken
+        ensures { λ r. ⌜ taken r ≡ takeValue limits width (set .mask) self value ⌝ }
     {
         let sound = rules::finite_limits(limits);
         if RuleSet::ALL < set.mask {
             return self.refuse(Refusal::SetTooLarge);
+        }
+        if OWN_WIDTHS < width {
+            return self.refuse(Refusal::WidthMode);
         }
         if !sound {
             return self.refuse(Refusal::NotFinite);
@@ -188,7 +192,7 @@ impl Lane {
         if !floats::is_finite(value) {
             return self.refuse(Refusal::NotFinite);
         }
-        let lane = self.after(rules::lines_of(limits), value);
+        let lane = self.after(rules::lines_of(limits, width), value);
         let marks = reading::marks(lane, set.mask);
         Taken {
             answer: Answer::Marks(marks),

@@ -1,12 +1,13 @@
--- Demand 2 compares with 01: what is asked with nothing that 02 adds is answered as 01 says. With no stops (R-1) it is so for marking, checking,
--- writing, evidence, evaluating and the sigma figures. 01's own words that a request has moved stand here once; a later request adds to
--- this file what it leaves as it was. Assumes nothing.
+-- Demand 2 compares with 01: what is asked with nothing that 02 adds is answered as 01 says. With no stops (R-1) and in width mode 0 (R-5) it
+-- is so for marking, checking, writing, evidence, evaluating and the sigma figures. 01's own words that a request has moved stand here once; a
+-- later request adds to this file what it leaves as it was. Assumes nothing.
 use mathlib.Core.Path.{_≡_, refl, ap, ap₂, _∙_, fun-ext}
 use mathlib.Core.Bool.{Bool, false, not, _&&_, cond}
 use mathlib.Core.List.{List, [], _∷_, _++_}
 use Prim.Native.Nat.{ℕ, zero, suc, _+_}
 use lib.Dec.{eqb, ltb}
-use lib.Ieee.{Float, nan}
+use lib.Ieee.{Float, nan, fin, add, sub, mul, div, binary64}
+use lib.IntN.{pos}
 use lib.ListN.{length, take, getD}
 use Rattle.laws.specs.Refusals.{firstOf, each}
 use Rattle.laws.specs.Lists.{tabulate}
@@ -18,7 +19,8 @@ use Rattle.stops.proofs.Cuts.{no-stops}
 use Rattle.stops.proofs.Rising.{none-wrong}
 use Rattle.sets.specs.Sets.{tests, testOf, has, setOf, tooLarge}
 use Rattle.rules.specs.declared.Limits.{Limits}
-use Rattle.rules.specs.Lines.{linesOf}
+use Rattle.rules.specs.declared.Lines.{Lines}
+use Rattle.rules.specs.Lines.{widthWrong, oneSigma, twoSigma, linesOf}
 use Rattle.rules.specs.Tests.{window}
 use Rattle.rules.specs.Finite.{finiteLimits}
 use Rattle.rules.specs.Terms.{under}
@@ -42,9 +44,24 @@ pub adjacent : List Float → ℕ → List Float
 adjacent values zero = []
 adjacent values (suc i) = getD values i nan ∷ adjacent values i
 
+-- "s = (ucl - cl) / 3.0 and t = 2.0 * s, in f64, each operation rounded; the same widths serve below the centre."
+pub lines01 : Limits → Lines
+lines01 l =
+    let s = div binary64 (sub binary64 (l .ucl) (l .cl)) (fin false 3 (pos 0)) in
+    let t = mul binary64 (fin false 1 (pos 1)) s in
+    record {
+      ucl = l .ucl;
+      cl = l .cl;
+      lcl = l .lcl;
+      above1 = add binary64 (l .cl) s;
+      below1 = sub binary64 (l .cl) s;
+      above2 = add binary64 (l .cl) t;
+      below2 = sub binary64 (l .cl) t;
+    }
+
 -- "A test marks every position whose window ends there and fits.": where the set has it, and it stands
 pub marks01 : Limits → ℕ → List Float → List ℕ
-marks01 l set values = tabulate (λ i. setOf (λ t. has set t && stands (linesOf l) (adjacent values (suc i)) t)) (length values)
+marks01 l set values = tabulate (λ i. setOf (λ t. has set t && stands (lines01 l) (adjacent values (suc i)) t)) (length values)
 
 -- "Marking and sheet writing: 5, 4, 3 for limits, 3 for values, 6. Checking: 5, 4, 3, 3, 9, 10, 11."
 pub ahead01 : Limits → ℕ → List Float → List (Bool × ℕ)
@@ -65,6 +82,12 @@ refusals01 a short =
     ∷ (not (sound a), 7)
     ∷ []
 
+-- ---- lines
+
+pub lines-are-01 : (l : Limits) → linesOf 0 l ≡ lines01 l
+unfolding linesOf oneSigma twoSigma lines01
+lines-are-01 l = refl
+
 -- ---- marks
 
 newest-adjacent : (values : List Float) (n : ℕ) → newestFirst unbroken values n ≡ adjacent values n
@@ -78,20 +101,20 @@ module _ (l : Limits) (moving : Bool) (values : List Float) where
   next-to n = ap (λ (cut : ℕ → Bool). newestFirst cut values n) (no-stops moving) ∙ newest-adjacent values n
 
   module _ (set : ℕ) where
-    pub marks-are-01 : marksOf (under l [] moving) set values ≡ marks01 l set values
+    pub marks-are-01 : marksOf (under l 0 [] moving) set values ≡ marks01 l set values
     unfolding marksOf marksAt marks01
     marks-are-01 =
         ap (λ (f : ℕ → ℕ). tabulate f (length values))
-        (fun-ext (λ i. ap (λ (w : List Float). setOf (λ t. has set t && stands (linesOf l) w t)) (next-to (suc i))))
+        (fun-ext (λ i. ap₂ (λ (m : Lines) (w : List Float). setOf (λ t. has set t && stands m w t)) (lines-are-01 l) (next-to (suc i))))
 
     -- ---- marking
 
-    pub answer-is-01 : (room : ℕ) → answerOf (under l [] moving) set values room ≡ firstOf (ahead01 l set values ++ ((ltb room (length values), 6) ∷ [])) 0
+    pub answer-is-01 : (room : ℕ) → answerOf (under l 0 [] moving) set values room ≡ firstOf (ahead01 l set values ++ ((ltb room (length values), 6) ∷ [])) 0
     unfolding answerOf ahead ahead01 firstOf
     answer-is-01 room = simp (none-wrong (mainPoints moving (length values)))
 
     pub slice-is-01 : (old : List ℕ)
-        → marksAfter (under l [] moving) set values old
+        → marksAfter (under l 0 [] moving) set values old
         ≡ cond (eqb (firstOf (ahead01 l set values ++ ((ltb (length old) (length values), 6) ∷ [])) 0) 0) (atFront (marks01 l set values) old) old
     unfolding marksAfter
     slice-is-01 old = ap₂ (λ (n : ℕ) (ms : List ℕ). cond (eqb n 0) (atFront ms old) old) (answer-is-01 (length old)) marks-are-01
@@ -99,51 +122,51 @@ module _ (l : Limits) (moving : Bool) (values : List Float) where
     -- ---- checking and writing
 
     pub verdict-is-01 : (s : List ℕ)
-        → checkOf (under l [] moving) set values s ≡ firstOf (each plain (ahead01 l set values)) (judged set (marks01 l set values) (said s))
+        → checkOf (under l 0 [] moving) set values s ≡ firstOf (each plain (ahead01 l set values)) (judged set (marks01 l set values) (said s))
     unfolding checkOf ahead ahead01 firstOf each
     verdict-is-01 s = simp (none-wrong (mainPoints moving (length values)), marks-are-01)
 
-    pub sheet-is-01 : seriesSheet (under l [] moving) set values ≡ sheetOf set (marks01 l set values)
+    pub sheet-is-01 : seriesSheet (under l 0 [] moving) set values ≡ sheetOf set (marks01 l set values)
     unfolding seriesSheet
     sheet-is-01 = ap (sheetOf set) marks-are-01
 
     pub written-is-01 : (room : ℕ)
-        → writeOf (under l [] moving) set values room
+        → writeOf (under l 0 [] moving) set values room
         ≡ firstOf (each (λ n. (n, 0)) (ahead01 l set values) ++ ((ltb room (length (sheetOf set (marks01 l set values))), (6, 0)) ∷ []))
         (0, length (sheetOf set (marks01 l set values)))
     unfolding writeOf ahead ahead01 firstOf each
     written-is-01 room = simp (none-wrong (mainPoints moving (length values)), sheet-is-01)
 
     pub room-is-01 : (old : List ℕ)
-        → roomAfter (under l [] moving) set values old
-        ≡ cond (eqb (writeOf (under l [] moving) set values (length old) .0) 0) (atFront (sheetOf set (marks01 l set values)) old) old
+        → roomAfter (under l 0 [] moving) set values old
+        ≡ cond (eqb (writeOf (under l 0 [] moving) set values (length old) .0) 0) (atFront (sheetOf set (marks01 l set values)) old) old
     unfolding roomAfter
-    room-is-01 old = ap (λ (s : List ℕ). cond (eqb (writeOf (under l [] moving) set values (length old) .0) 0) (atFront s old) old) sheet-is-01
+    room-is-01 old = ap (λ (s : List ℕ). cond (eqb (writeOf (under l 0 [] moving) set values (length old) .0) 0) (atFront s old) old) sheet-is-01
 
   -- ---- evidence: "If the number, position or test is out of range, the window doesn't fit, its values or the limits aren't finite, or the
   -- pattern isn't shown" it is empty
 
   pub shown-is-01 : (at bit : ℕ)
-      → shownAt values (under l [] moving) at bit
+      → shownAt values (under l 0 [] moving) at bit
       ≡ (ltb at (length values)
       && (ltb bit (length tests)
       && (finiteLimits l
-      && (allFinite (take (window (testOf bit)) (adjacent values (suc at))) && stands (linesOf l) (adjacent values (suc at)) (testOf bit)))))
+      && (allFinite (take (window (testOf bit)) (adjacent values (suc at))) && stands (lines01 l) (adjacent values (suc at)) (testOf bit)))))
   unfolding shownAt
-  shown-is-01 at bit = simp (none-wrong (mainPoints moving (length values)), next-to (suc at))
+  shown-is-01 at bit = simp (none-wrong (mainPoints moving (length values)), next-to (suc at), lines-are-01 l)
 
--- ---- evaluating a chart that counts no stops, whatever positions are lent with it
+-- ---- evaluating a chart that counts no stops, whatever positions are lent with it, in width mode 0
 
-module _ (a : Asked) (none : a .chart .stops ≡ 0) where
+module _ (a : Asked) (none : a .chart .stops ≡ 0) (default : a .width ≡ 0) where
   pub series-marks-are-01 : (s : ℕ) → seriesMarks a s ≡ marks01 (limitsOf a s) (a .chart .set .mask) (seriesOf a s)
   unfolding seriesMarks
   series-marks-are-01 s =
-      ap (λ (n : ℕ). marksOf (under (limitsOf a s) (take n (a .positions)) (movingIn (a .chart) s)) (a .chart .set .mask) (seriesOf a s)) none
+      ap₂ (λ (w n : ℕ). marksOf (under (limitsOf a s) w (take n (a .positions)) (movingIn (a .chart) s)) (a .chart .set .mask) (seriesOf a s)) default none
       ∙ marks-are-01 (limitsOf a s) (movingIn (a .chart) s) (seriesOf a s) (a .chart .set .mask)
 
-  number-is-01 : (short : Bool) → firstOf (refusals a (positionsWrong (a .chart) (a .positions)) short) 0 ≡ firstOf (refusals01 a short) 0
+  number-is-01 : (short : Bool) → firstOf (refusals a (positionsWrong (a .chart) (a .positions)) (widthWrong (a .width)) short) 0 ≡ firstOf (refusals01 a short) 0
   unfolding refusals01 firstOf
-  number-is-01 short = simp (none-stopped (a .chart) (a .positions) none)
+  number-is-01 short = simp (none-stopped (a .chart) (a .positions) none, default)
 
   pub evaluation-is-01 : (short : Bool)
       → evaluateOf a short

@@ -8,7 +8,7 @@ use lib.Ieee.{Float}
 use Rattle.laws.specs.Front.{lentAfter}
 use Rattle.floats.specs.Values.{plusZero}
 use Rattle.evaluating.specs.declared.Evaluated.{Evaluated}
-use Rattle.evaluating.specs.Asked.{asked, interrupted}
+use Rattle.evaluating.specs.Asked.{asked, interrupted, inMode}
 use Rattle.evaluating.specs.Series.{seriesOf}
 use Rattle.evaluating.specs.Evaluating.{Answer, seriesMarks}
 use Rattle.evaluating.proofs.Answers.{lengths-one, evaluated-one, estimated-one, figured-one}
@@ -59,20 +59,20 @@ pub record Left : Type 0 where
 
 evaluate-one : Coincide 6 evaluate-kinds.ps evaluate-kinds.r evaluate.Post {Seen = Left} (λ κs x s. record {
   answer = x;
-  main = now (s .1 .1 .1 .0);
-  dispersion = now (s .1 .1 .1 .1 .0);
-  mainMarks = now (s .1 .1 .1 .1 .1 .0);
-  dispersionMarks = now (s .1 .1 .1 .1 .1 .1 .0);
+  main = now (s .1 .1 .1 .1 .0);
+  dispersion = now (s .1 .1 .1 .1 .1 .0);
+  mainMarks = now (s .1 .1 .1 .1 .1 .1 .0);
+  dispersionMarks = now (s .1 .1 .1 .1 .1 .1 .1 .0);
 })
 evaluate-one κs a x y s t p q =
     let number = ap (λ (r : Answer). r .number) (p .0 ∙ sym (q .0)) in
     let values = asked (a .0) (a .1 .0 .now) in
-    let question = interrupted values (a .1 .1 .0 .now) in
+    let question = inMode (interrupted values (a .1 .1 .0 .now)) (a .1 .1 .1 .0) in
     let answer : x ≡ y = evaluated-one x y (p .0 ∙ sym (q .0)) in
-    let main = p .1 .0 ∙ ap (λ (n : ℕ). lentAfter n plusZero (seriesOf values 0) (a .1 .1 .1 .0 .now)) number ∙ sym (q .1 .0) in
-    let dispersion = p .1 .1 .0 ∙ ap (λ (n : ℕ). lentAfter n plusZero (seriesOf values 1) (a .1 .1 .1 .1 .0 .now)) number ∙ sym (q .1 .1 .0) in
-    let mainMarks = p .1 .1 .1 .0 ∙ ap (λ (n : ℕ). lentAfter n 0 (seriesMarks question 0) (a .1 .1 .1 .1 .1 .0 .now)) number ∙ sym (q .1 .1 .1 .0) in
-    let dispersionMarks = p .1 .1 .1 .1 ∙ ap (λ (n : ℕ). lentAfter n 0 (seriesMarks question 1) (a .1 .1 .1 .1 .1 .1 .0 .now)) number ∙ sym (q .1 .1 .1 .1) in
+    let main = p .1 .0 ∙ ap (λ (n : ℕ). lentAfter n plusZero (seriesOf values 0) (a .1 .1 .1 .1 .0 .now)) number ∙ sym (q .1 .0) in
+    let dispersion = p .1 .1 .0 ∙ ap (λ (n : ℕ). lentAfter n plusZero (seriesOf values 1) (a .1 .1 .1 .1 .1 .0 .now)) number ∙ sym (q .1 .1 .0) in
+    let mainMarks = p .1 .1 .1 .0 ∙ ap (λ (n : ℕ). lentAfter n 0 (seriesMarks question 0) (a .1 .1 .1 .1 .1 .1 .0 .now)) number ∙ sym (q .1 .1 .1 .0) in
+    let dispersionMarks = p .1 .1 .1 .1 ∙ ap (λ (n : ℕ). lentAfter n 0 (seriesMarks question 1) (a .1 .1 .1 .1 .1 .1 .1 .0 .now)) number ∙ sym (q .1 .1 .1 .1) in
     cc (answer, main, dispersion, mainMarks, dispersionMarks)
 
 points-one : Coincide 0 points-kinds.ps points-kinds.r points.Post (λ κs x s. x)

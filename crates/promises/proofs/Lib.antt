@@ -10,6 +10,7 @@ mod Attributes
 mod Sets
 mod Stops
 mod Rules
+mod Widths
 mod Histories
 mod Evidence
 mod Charts

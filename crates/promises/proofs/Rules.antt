@@ -19,7 +19,7 @@ use Rattle.rules.proofs.window.Reads as window
 use Rattle.rules.proofs.window.Kinds as window-kinds
 use Rattle.promises.proofs.Coincide.{Coincide}
 
-mark-one : Coincide 3 mark-kinds.ps mark-kinds.r mark.Post {Seen = Marked × List ℕ} (λ κs x s. (x, now (s .1 .1 .1 .1 .1 .0)))
+mark-one : Coincide 3 mark-kinds.ps mark-kinds.r mark.Post {Seen = Marked × List ℕ} (λ κs x s. (x, now (s .1 .1 .1 .1 .1 .1 .0)))
 mark-one κs a x y s t p q =
     ap₂ (λ (u : Marked) (v : List ℕ). (u, v)) (numbered-one x y (p .0 ∙ sym (q .0))) (p .1 ∙ sym (q .1))
 

@@ -18,7 +18,7 @@ use Rattle.promises.proofs.Coincide.{Coincide}
 check-one : Coincide 3 check-kinds.ps check-kinds.r check.Post (λ κs x s. x)
 check-one κs a x y s t p q = checked-one x y (p ∙ sym q)
 
-write-one : Coincide 3 write-kinds.ps write-kinds.r write.Post {Seen = Written × List ℕ} (λ κs x s. (x, now (s .1 .1 .1 .1 .1 .0)))
+write-one : Coincide 3 write-kinds.ps write-kinds.r write.Post {Seen = Written × List ℕ} (λ κs x s. (x, now (s .1 .1 .1 .1 .1 .1 .0)))
 write-one κs a x y s t p q =
     ap₂ (λ (u : Written) (v : List ℕ). (u, v)) (written-one x y (p .0 ∙ sym (q .0))) (p .1 ∙ sym (q .1))
 

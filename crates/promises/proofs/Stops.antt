@@ -33,7 +33,7 @@ abbrev usual : Limits
 usual = record { ucl = ofBits binary64 0x403c000000000000; cl = ofBits binary64 0x4039000000000000; lcl = ofBits binary64 0x4036000000000000 }
 
 abbrev marksWith : List ℕ → Bool → List ℕ
-marksWith stops moving = marksOf (under usual stops moving) 255 (replicate 9 (ofBits binary64 0x403a800000000000))
+marksWith stops moving = marksOf (under usual 0 stops moving) 255 (replicate 9 (ofBits binary64 0x403a800000000000))
 
 -- With no stops four of five lie beyond one sigma from position 4 on (32), eight do at 7 (128), and nine lie on one side at 8 (2). A stop
 -- before position 3 leaves six values in a row, of which the fifth and the sixth have four of five. On moving ranges a stop at 4 is straddled

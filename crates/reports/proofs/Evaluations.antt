@@ -17,6 +17,7 @@ use Rattle.laws.specs.Front.{lentAfter}
 use Rattle.laws.proofs.Lists.{length-tabulate}
 use Rattle.laws.proofs.Refusals.{accepted}
 use Rattle.floats.specs.Finite.{allFinite}
+use Rattle.rules.specs.Lines.{widthWrong}
 use Rattle.rules.specs.declared.Limits.{Limits}
 use Rattle.rules.specs.Finite.{finiteLimits}
 use Rattle.rules.specs.Marking.{marksOf}
@@ -67,7 +68,8 @@ module _ (c : Chart) (h : Legal c) where
   unfolding noRoom
   rooms = rw (le-ltb 2048 (pointsIn c 0) (points-fit 0), le-ltb 2048 (pointsIn c 1) (points-fit 1)) refl
 
-module _ (a : Asked) (h : Legal (a .chart)) (whole : length (a .values) ≡ size (a .chart)) (finite : allFinite (a .values) ≡ true) where
+module _ (a : Asked) (h : Legal (a .chart)) (whole : length (a .values) ≡ size (a .chart)) (finite : allFinite (a .values) ≡ true)
+    (mode : widthWrong (a .width) ≡ false) where
   right : recordWrong (a .chart) (length (a .values)) ≡ false
   unfolding recordWrong
   right = rw (h .own, le-ltb (length (a .values)) (a .chart .count * a .chart .size) (le-of-eq (sym whole))) refl
@@ -75,9 +77,9 @@ module _ (a : Asked) (h : Legal (a .chart)) (whole : length (a .values) ≡ size
   stored : not (allFinite (asking.stored a)) ≡ false
   stored = ap (λ (l : List Float). not (allFinite l)) (take-all (size (a .chart)) (a .values) (le-of-eq whole)) ∙ ap not finite
 
-  same-refusal : firstOf (refusals a (positionsWrong (a .chart) (a .positions)) (short (a .chart))) 0 ≡ refusalOf a
+  same-refusal : firstOf (refusals a (positionsWrong (a .chart) (a .positions)) (widthWrong (a .width)) (short (a .chart))) 0 ≡ refusalOf a
   unfolding refusalOf firstOf
-  same-refusal = rw (right, none-stopped (a .chart) (a .positions) (h .unstopped), rooms (a .chart) h, stored, finite) refl
+  same-refusal = rw (right, none-stopped (a .chart) (a .positions) (h .unstopped), mode, rooms (a .chart) h, stored, finite) refl
 
   evaluated-is : evaluateOf a (short (a .chart)) ≡ answerFor (refusalOf a) a
   unfolding evaluateOf

@@ -7,6 +7,7 @@ use charts::INDIVIDUALS;
 use evaluating::Evaluated;
 use evaluating::Evaluation;
 use flow::Flow;
+use rules::SAME_WIDTHS;
 ghost use mathlib.Core.Path.{_≡_};
 ghost use Prim.Native.Nat.{_≤_};
 ghost use lib.ListN.{length};
@@ -96,6 +97,7 @@ fn report_chart(chart: Chart, values: &[f64], out: &mut [u8]) -> Reported
         chart,
         values,
         &[],
+        SAME_WIDTHS,
         &mut main,
         &mut dispersion,
         &mut marks,

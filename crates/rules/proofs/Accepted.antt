@@ -18,6 +18,7 @@ use Rattle.floats.specs.Finite.{allFinite}
 use Rattle.rules.specs.declared.Marked.{Marked}
 use Rattle.rules.specs.Finite.{finiteLimits}
 use Rattle.rules.specs.Terms.{Terms}
+use Rattle.rules.specs.Lines.{widthWrong}
 use Rattle.stops.specs.Stops.{stopsWrong, mainPoints}
 use Rattle.rules.specs.Marking.{most, numbered, ahead, refusal, answerOf, marksOf, marksAfter}
 use Rattle.rules.proofs.Meaning.{length-marks}
@@ -26,6 +27,7 @@ pub record Accepted (terms : Terms) (set : ℕ) (values : List Float) : Type 0 w
   pub few : length values ≤ most
   pub stopped : stopsWrong (mainPoints (terms .moving) (length values)) (terms .stops) ≡ false
   pub small : set ≤ 511
+  pub mode : terms .width ≤ 1
   pub sound : finiteLimits (terms .limits) ≡ true
   pub finite : allFinite values ≡ true
 
@@ -43,21 +45,24 @@ module _ (terms : Terms) (set : ℕ) (values : List Float) where
         few = ltb-false most (length values) (all .0);
         stopped = all .1 .0;
         small = ltb-false 511 set (all .1 .1 .0);
-        sound = not-false (finiteLimits (terms .limits)) (all .1 .1 .1 .0);
-        finite = not-false (allFinite values) (all .1 .1 .1 .1 .0);
+        mode = ltb-false 1 (terms .width) (all .1 .1 .1 .0);
+        sound = not-false (finiteLimits (terms .limits)) (all .1 .1 .1 .1 .0);
+        finite = not-false (allFinite values) (all .1 .1 .1 .1 .1 .0);
       }
 
   -- what is so is not refused
   pub accepts : Accepted terms set values → refusal terms set values ≡ 0
   unfolding ahead firstOf
-  accepts a = simp (le-ltb most (length values) (a .few), a .stopped, le-ltb 511 set (a .small), a .sound, a .finite)
+  accepts a =
+      simp (le-ltb most (length values) (a .few), a .stopped, le-ltb 511 set (a .small), le-ltb 1 (terms .width) (a .mode), a .sound, a .finite)
 
-  -- Where the values are few enough, the stops are some and the set is one, it is the limits and the values alone that decide.
+  -- Where the values are few enough, the stops are some and the set is one, it is the mode, the limits and the values that decide.
   pub only-finite : length values ≤ most → stopsWrong (mainPoints (terms .moving) (length values)) (terms .stops) ≡ false → set ≤ 511
-      → refusal terms set values ≡ cond (finiteLimits (terms .limits) && allFinite values) 0 3
+      → refusal terms set values ≡ cond (widthWrong (terms .width)) 21 (cond (finiteLimits (terms .limits) && allFinite values) 0 3)
   unfolding ahead firstOf
   only-finite few stopped small =
-      simp (le-ltb most (length values) few, stopped, le-ltb 511 set small) (by (finiteLimits (terms .limits)) (allFinite values))
+      simp (le-ltb most (length values) few, stopped, le-ltb 511 set small)
+      (ap (cond (widthWrong (terms .width)) 21) (by (finiteLimits (terms .limits)) (allFinite values)))
     where
       by : (a b : Bool) → _≡_ {A = ℕ} (cond (not a) 3 (cond (not b) 3 0)) (cond (a && b) 0 3)
       by true true = refl

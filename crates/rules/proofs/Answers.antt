@@ -8,17 +8,18 @@ use borrow.Author.Tests.{ne-eqb}
 use Rattle.rules.specs.declared.Marked.{Marked}
 use Rattle.rules.specs.declared.Marked.the-variants.{Done, Refused}
 use Rattle.rules.specs.declared.Refusal.{Refusal}
-use Rattle.rules.specs.declared.Refusal.the-variants.{TooMany, Stops, SetTooLarge, NotFinite, TooShort}
+use Rattle.rules.specs.declared.Refusal.the-variants.{TooMany, Stops, SetTooLarge, WidthMode, NotFinite, TooShort}
 use Rattle.rules.specs.Marking.{number, numbered}
 
 -- the refusal of a number
 abbrev pub refusalOf : ℕ → Refusal
-refusalOf n = cond (eqb n 5) TooMany (cond (eqb n 15) Stops (cond (eqb n 4) SetTooLarge (cond (eqb n 3) NotFinite TooShort)))
+refusalOf n = cond (eqb n 5) TooMany (cond (eqb n 15) Stops (cond (eqb n 4) SetTooLarge (cond (eqb n 21) WidthMode (cond (eqb n 3) NotFinite TooShort))))
 
 pub refusal-again : (why : Refusal) → refusalOf (number why) ≡ why
 refusal-again TooMany = refl
 refusal-again Stops = refl
 refusal-again SetTooLarge = refl
+refusal-again WidthMode = refl
 refusal-again NotFinite = refl
 refusal-again TooShort = refl
 
@@ -27,6 +28,7 @@ pub number-above : (why : Refusal) → 0 < number why
 number-above TooMany = omega arith
 number-above Stops = omega arith
 number-above SetTooLarge = omega arith
+number-above WidthMode = omega arith
 number-above NotFinite = omega arith
 number-above TooShort = omega arith
 

@@ -14,9 +14,8 @@ use Rattle.sets.specs.declared.Test.{Test}
 use Rattle.sets.specs.Sets.{has, setOf}
 use Rattle.sets.proofs.Sets.{has-setOf, setOf-lt, and-setOf}
 use Rattle.rules.specs.declared.Lines.{Lines}
-use Rattle.rules.specs.Lines.{linesOf}
 use Rattle.rules.specs.Terms.{Terms}
-use Rattle.rules.specs.Marking.{newestFirst, stands, marksAt, cutsOf, marksOf}
+use Rattle.rules.specs.Marking.{newestFirst, stands, marksAt, cutsOf, linesFor, marksOf}
 
 module _ (cut : ℕ → Bool) (l : Lines) (set : ℕ) (values : List Float) (i : ℕ) where
   -- A test is marked at a position exactly where the set has it and its window that ends there fits and shows its pattern.
@@ -42,11 +41,11 @@ module _ (cut : ℕ → Bool) (l : Lines) (set : ℕ) (values : List Float) (i :
 module _ (terms : Terms) (set : ℕ) (values : List Float) where
   pub length-marks : length (marksOf terms set values) ≡ length values
   unfolding marksOf
-  length-marks = length-tabulate (marksAt (cutsOf terms) (linesOf (terms .limits)) set values) (length values)
+  length-marks = length-tabulate (marksAt (cutsOf terms) (linesFor terms) set values) (length values)
 
-  pub marks-at : (i : ℕ) → i < length values → getD (marksOf terms set values) i 0 ≡ marksAt (cutsOf terms) (linesOf (terms .limits)) set values i
+  pub marks-at : (i : ℕ) → i < length values → getD (marksOf terms set values) i 0 ≡ marksAt (cutsOf terms) (linesFor terms) set values i
   unfolding marksOf
-  marks-at i h = getD-tabulate (marksAt (cutsOf terms) (linesOf (terms .limits)) set values) (length values) i 0 h
+  marks-at i h = getD-tabulate (marksAt (cutsOf terms) (linesFor terms) set values) (length values) i 0 h
 
   newest-take : (n k : ℕ) → k ≤ n → newestFirst (cutsOf terms) (take n values) k ≡ newestFirst (cutsOf terms) values k
   unfolding newestFirst
@@ -59,7 +58,7 @@ module _ (terms : Terms) (set : ℕ) (values : List Float) where
   unfolding marksOf marksAt
   marks-of-prefix n h =
       let cut = cutsOf terms in
-      let l = linesOf (terms .limits) in
+      let l = linesFor terms in
       ap (tabulate (marksAt cut l set (take n values))) (length-take-le n values h)
       ∙ same-tabulate (marksAt cut l set (take n values)) (marksAt cut l set values) n
       (λ k q. ap (λ (past : List Float). setOf (λ t. has set t && stands l past t)) (newest-take n (suc k) q))

@@ -1,5 +1,5 @@
--- What a mark means, and what marking answers and leaves in the lent slice (01, 'The nine tests', 'Numbers a call may give back'; 02, R-1).
--- Definitions only.
+-- What a mark means, and what marking answers and leaves in the lent slice (01, 'The nine tests', 'Numbers a call may give back'; 02, R-1
+-- and R-5). Definitions only.
 use mathlib.Core.Bool.{Bool, not, _&&_, cond}
 use mathlib.Core.List.{List, [], _∷_, _++_}
 use Prim.Native.Nat.{ℕ, zero, suc}
@@ -16,9 +16,9 @@ use Rattle.rules.specs.declared.Lines.{Lines}
 use Rattle.rules.specs.declared.Marked.{Marked}
 use Rattle.rules.specs.declared.Marked.the-variants.{Done, Refused}
 use Rattle.rules.specs.declared.Refusal.{Refusal}
-use Rattle.rules.specs.declared.Refusal.the-variants.{TooMany, Stops, SetTooLarge, NotFinite, TooShort}
+use Rattle.rules.specs.declared.Refusal.the-variants.{TooMany, Stops, SetTooLarge, WidthMode, NotFinite, TooShort}
 use Rattle.rules.specs.Terms.{Terms}
-use Rattle.rules.specs.Lines.{linesOf}
+use Rattle.rules.specs.Lines.{widthWrong, linesOf}
 use Rattle.rules.specs.Tests.{window, shows}
 use Rattle.floats.specs.Finite.{allFinite}
 use Rattle.rules.specs.Finite.{finiteLimits}
@@ -47,8 +47,12 @@ marksBy cut l set values = tabulate (marksAt cut l set values) (length values)
 abbrev pub cutsOf : Terms → ℕ → Bool
 cutsOf terms = cutAt (terms .stops) (terms .moving)
 
+-- the lines that it is judged by
+abbrev pub linesFor : Terms → Lines
+linesFor terms = linesOf (terms .width) (terms .limits)
+
 unfoldable pub marksOf : Terms → ℕ → List Float → List ℕ
-marksOf terms set values = marksBy (cutsOf terms) (linesOf (terms .limits)) set values
+marksOf terms set values = marksBy (cutsOf terms) (linesFor terms) set values
 
 -- ---- what marking answers
 
@@ -61,6 +65,7 @@ abbrev pub number : Refusal → ℕ
 number TooMany = 5
 number Stops = 15
 number SetTooLarge = 4
+number WidthMode = 21
 number NotFinite = 3
 number TooShort = 6
 
@@ -68,12 +73,13 @@ abbrev pub numbered : Marked → ℕ
 numbered Done = 0
 numbered (Refused why) = number why
 
--- What marking, checking and writing refuse first: 5, 15, 4, 3 for limits, 3 for values.
+-- What marking, checking and writing refuse first: 5, 15, 4, 21, 3 for limits, 3 for values.
 unfoldable pub ahead : Terms → ℕ → List Float → List (Bool × ℕ)
 ahead terms set values =
     (ltb most (length values), 5)
     ∷ (stopsWrong (mainPoints (terms .moving) (length values)) (terms .stops), 15)
     ∷ (tooLarge set, 4)
+    ∷ (widthWrong (terms .width), 21)
     ∷ (not (finiteLimits (terms .limits)), 3)
     ∷ (not (allFinite values), 3)
     ∷ []

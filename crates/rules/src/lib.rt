@@ -15,6 +15,13 @@ ghost use Rattle.rules.specs.Marking.{number, numbered, refusal, answerO
 /// The most values of a series.
 pub const MOST: usize = 4096;
 
+/// The default width mode: one and two sigma are measured between the upper limit and the centre line, and serve below it too.
+pub const SAME_WIDTHS: u64 = 0;
+
+/// The width mode by which each side has the widths of its own limit: below the centre line they are measured between it and the
+/// lower limit.
+pub const OWN_WIDTHS: u64 = 1;
+
 /// Control limits: the upper limit, the centre line, the lower limit.
 pub struct Limits {
     pub ucl: f64,
@@ -22,10 +29,12 @@ pub struct Limits {
     pub lcl: f64,
 }
 
-// The zone widths: one and two sigma.
+// The zone widths: one and two sigma above the centre line, and below it.
 struct Widths {
-    one: f64,
-    two: f64,
+    above1: f64,
+    above2: f64,
+    below1: f64,
+    below2: f64,
 }
 
 /// The lines that the tests compare with: the limits, and one and two sigma above and below the centre line.
@@ -61,6 +70,8 @@ pub enum Refusal {
     Stops,
     /// The set's mask is over 511 (4).
     SetTooLarge,
+    /// The width mode is not 0 or 1 (21).
+    WidthMode,
     /// A limit or a value is not finite (3).
     NotFinite,
     /// The lent room is too short for what is to be written (6).
@@ -84,6 +95,7 @@ impl Refusal {
             Refusal::TooMany => 5,
             Refusal::Stops => 15,
             Refusal::SetTooLarge => 4,
+            Refusal::WidthMode => 21,
             Refusal::NotFinite => 3,
             Refusal::TooShort => 6,
         }
@@ -116,38 +128,60 @@ pub fn finite_limits(l: Limits) -> bool
     (upper & centre) & lower
 }
 
-// The zone widths of the limits.
-fn widths_of(l: Limits) -> Widths
-    ensures { λ r. ⌜ r ≡ widthsOf l ⌝ }
+// The zone widths of the limits, by the width mode.
+fn widths_of(l: Limits, width: u64) -> Widths
+    ensures { λ r. ⌜ r ≡ widthsOf width l ⌝ }
 {
     let s = (l.ucl - l.cl) / 3.0;
     let t = 2.0 * s;
-    Widths { one: s, two: t }
+    if width == OWN_WIDTHS {
+        let below = (l.cl - l.lcl) / 3.0;
+        return Widths {
+            above1: s,
+            above2: t,
+            below1: below,
+            below2: 2.0 * below,
+        };
+    }
+    Widths {
+        above1: s,
+        above2: t,
+        below1: s,
+        below2: t,
+    }
 }
 
-/// The lines of the limits: the same widths serve below the centre.
+/// The lines of the limits, by the width mode: [`SAME_WIDTHS`] or [`OWN_WIDTHS`].
 ///
-/// Refuses nothing.
+/// Refuses nothing: a mode that is neither, which marking refuses, has the lines of the default.
 ///
-/// Of `Limits { ucl: 28.0, cl: 25.0, lcl: 20.0 }` one sigma above the centre line is 26.0, and one below it 24.0.
-pub fn lines_of(l: Limits) -> Lines
-    ensures { λ r. ⌜ r ≡ linesOf l ⌝ }
+/// Of `Limits { ucl: 28.0, cl: 25.0, lcl: 19.0 }` one sigma above the centre line is 26.0, and one below it 24.0 by mode 0 and
+/// 23.0 by mode 1.
+pub fn lines_of(l: Limits, width: u64) -> Lines
+    ensures { λ r. ⌜ r ≡ linesOf width l ⌝ }
 {
-    let w = widths_of(l);
+    let w = widths_of(l, width);
     Lines {
         ucl: l.ucl,
         cl: l.cl,
         lcl: l.lcl,
-        above1: l.cl + w.one,
-        below1: l.cl - w.one,
-        above2: l.cl + w.two,
-        below2: l.cl - w.two,
+        above1: l.cl + w.above1,
+        below1: l.cl - w.below1,
+        above2: l.cl + w.above2,
+        below2: l.cl - w.below2,
     }
 }
 
 // What is refused before there is a room to look at: the first refusal that applies, or `Done`.
-fn ahead(values: &[f64], stops: &[usize], moving: bool, limits: Limits, set: RuleSet) -> Marked
-    ensures { λ r. ⌜ numbered r ≡ refusal (under limits (now (stops .entry)) moving) (set .mask) (now (values .entry)) ⌝ }
+fn ahead(
+    values: &[f64],
+    stops: &[usize],
+    moving: bool,
+    limits: Limits,
+    width: u64,
+    set: RuleSet,
+) -> Marked
+    ensures { λ r. ⌜ numbered r ≡ refusal (under limits width (now (stops .entry)) moving) (set .mask) (now (values .entry)) ⌝ }
 {
     if MOST < values.len() {
         return Marked::Refused(Refusal::TooMany);
@@ -157,6 +191,9 @@ fn ahead(values: &[f64], stops: &[usize], moving: bool, limits: Limits, set: Rul
     }
     if RuleSet::ALL < set.mask {
         return Marked::Refused(Refusal::SetTooLarge);
+    }
+    if OWN_WIDTHS < width {
+        return Marked::Refused(Refusal::WidthMode);
     }
     if !finite_limits(limits) {
         return Marked::Refused(Refusal::NotFinite);
@@ -174,14 +211,17 @@ fn ahead(values: &[f64], stops: &[usize], moving: bool, limits: Limits, set: Rul
 /// (`moving`); a window that reaches over one does not show its pattern, and only windows of length one hold a moving range
 /// that straddles one.
 ///
+/// `width` is the width mode: 0 ([`SAME_WIDTHS`]), where one and two sigma below the centre line are as wide as above it, or 1
+/// ([`OWN_WIDTHS`]), where each side has the widths of its own limit.
+///
 /// Gives `Done` and fills the front of `marks`, one entry for each value; entries past them are untouched. Infinite
 /// zone widths and limits that lie the wrong way round are taken as they are.
 ///
 /// # Refusals
 ///
 /// In this order, with `marks` as it came: more than 4,096 values (5), stops that are none of the series (15, see
-/// [`stops::wrong`]), a set over 511 (4), limits that are not all finite (3), values that are not all finite (3), a slice
-/// shorter than the series (6).
+/// [`stops::wrong`]), a set over 511 (4), a width mode that is not 0 or 1 (21), limits that are not all finite (3), values that
+/// are not all finite (3), a slice shorter than the series (6).
 ///
 /// # Example
 ///
@@ -191,21 +231,22 @@ fn ahead(values: &[f64], stops: &[usize], moving: bool, limits: Limits, set: Rul
 /// ```
 /// let limits = Limits { ucl: 28.0, cl: 25.0, lcl: 22.0 };
 /// let mut marks = [0u16; 9];
-/// rules::mark(&[26.5; 9], &[], false, limits, RuleSet::nelson(), &mut marks);   // 0, 0, 0, 0, 32, 32, 32, 160, 162
-/// rules::mark(&[26.5; 9], &[3], false, limits, RuleSet::nelson(), &mut marks);  // 0, 0, 0, 0, 0, 0, 0, 32, 32
+/// rules::mark(&[26.5; 9], &[], false, limits, 0, RuleSet::nelson(), &mut marks);   // 0, 0, 0, 0, 32, 32, 32, 160, 162
+/// rules::mark(&[26.5; 9], &[3], false, limits, 0, RuleSet::nelson(), &mut marks);  // 0, 0, 0, 0, 0, 0, 0, 32, 32
 /// ```
 pub fn mark(
     values: &[f64],
     stops: &[usize],
     moving: bool,
     limits: Limits,
+    width: u64,
     set: RuleSet,
     marks: &mut [u16],
 ) -> Marked
-    ensures answer { λ r. ⌜ numbered r ≡ answerOf (under limits (now (stops .entry)) moving) (set .mask) (now (values .entry)) (length (now (marks .entry))) ⌝ }
-    ensures marks { λ r. ⌜ now (marks .exit) ≡ marksAfter (under limits (now (stops .entry)) moving) (set .mask) (now (values .entry)) (now (marks .entry)) ⌝ }
+    ensures answer { λ r. ⌜ numbered r ≡ answerOf (under limits width (now (stops .entry)) moving) (set .mask) (now (values .entry)) (length (now (marks .entry))) ⌝ }
+    ensures marks { λ r. ⌜ now (marks .exit) ≡ marksAfter (under limits width (now (stops .entry)) moving) (set .mask) (now (values .entry)) (now (marks .entry)) ⌝ }
 {
-    let refused = ahead(values, stops, moving, limits, set);
+    let refused = ahead(values, stops, moving, limits, width, set);
     if refused.number() != 0 {
         return refused;
     }
@@ -213,7 +254,7 @@ pub fn mark(
         return Marked::Refused(Refusal::TooShort);
     }
     let n = values.len();
-    codes::fill(lines_of(limits), set.mask, values, marks);
+    codes::fill(lines_of(limits, width), set.mask, values, marks);
     cuts::part(stops, moving, &mut marks[0..n]);
     Marked::Done
 }

@@ -20,8 +20,7 @@ use Rattle.sets.specs.declared.Test.{Test}
 use Rattle.sets.specs.Sets.{has}
 use Rattle.sets.proofs.Sets.{known-by-tests}
 use Rattle.rules.specs.Terms.{Terms}
-use Rattle.rules.specs.Lines.{linesOf}
-use Rattle.rules.specs.Marking.{newestFirst, stands, marksAt, cutsOf, marksOf}
+use Rattle.rules.specs.Marking.{newestFirst, stands, marksAt, cutsOf, linesFor, marksOf}
 use Rattle.rules.proofs.Meaning.{marks-inside, length-marks, marks-at}
 use Rattle.sheets.specs.Sheet.{marked, entriesOf, sheetOf}
 use Rattle.sheets.specs.Said.{Said, fault, sheet}
@@ -83,7 +82,7 @@ module _ (terms : Terms) (set : ℕ) (values : List Float) (valid : set ≤ 511)
           ≡ getD (marksOf terms set values) i 0
       by true b =
           let at = marks-at terms set values i (ltb-true i (length values) b) in
-          rw at (marks-inside (cutsOf terms) (linesOf (terms .limits)) set values i)
+          rw at (marks-inside (cutsOf terms) (linesFor terms) set values i)
       by false b =
           let past : getD (marksOf terms set values) i 0 ≡ 0 =
           List·getD-eq-default (marksOf terms set values) 0 (omega (arith, length-marks terms set values, ltb-false i (length values) b)) in
@@ -91,14 +90,14 @@ module _ (terms : Terms) (set : ℕ) (values : List Float) (valid : set ≤ 511)
 
   -- marks inside the set that are right test by test are the right ones
   pub right-by-tests : (ms : List ℕ) → length ms ≡ length values → Inside set ms
-      → ((i : ℕ) (t : Test) → i < length values → has (getD ms i 0) t ≡ (has set t && stands (linesOf (terms .limits)) (newestFirst (cutsOf terms) values (suc i)) t))
+      → ((i : ℕ) (t : Test) → i < length values → has (getD ms i 0) t ≡ (has set t && stands (linesFor terms) (newestFirst (cutsOf terms) values (suc i)) t))
       → ms ≡ marksOf terms set values
   unfolding marksAt
   right-by-tests ms count inside each =
       ext-getD 0 ms (marksOf terms set values) (count ∙ sym (length-marks terms set values))
       (λ i h.
       let k : i < length values = omega (arith, count) in
-      known-by-tests (getD ms i 0) (λ t. has set t && stands (linesOf (terms .limits)) (newestFirst (cutsOf terms) values (suc i)) t)
+      known-by-tests (getD ms i 0) (λ t. has set t && stands (linesFor terms) (newestFirst (cutsOf terms) values (suc i)) t)
       (omega (arith, and-le-r (getD ms i 0) set, inside i)) (λ t. each i t k)
       ∙ sym (marks-at terms set values i k))
 

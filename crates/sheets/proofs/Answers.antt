@@ -6,7 +6,7 @@ use native.Mathlib.Omega.{arith}
 use lib.Dec.{eqb}
 use borrow.Author.Tests.{ne-eqb}
 use Rattle.rules.specs.declared.Refusal.{Refusal}
-use Rattle.rules.specs.declared.Refusal.the-variants.{TooMany, Stops, SetTooLarge, NotFinite, TooShort}
+use Rattle.rules.specs.declared.Refusal.the-variants.{TooMany, Stops, SetTooLarge, WidthMode, NotFinite, TooShort}
 use Rattle.rules.specs.Marking.{number}
 use Rattle.rules.proofs.Answers.{refusalOf, refusal-again, number-above}
 use Rattle.sheets.specs.declared.Checked.{Checked}
@@ -31,6 +31,7 @@ checked-back (checking.Refused why) = by why
     by TooMany = refl
     by Stops = refl
     by SetTooLarge = refl
+    by WidthMode = refl
     by NotFinite = refl
     by TooShort = refl
 checked-back (checking.Form at) = refl

@@ -1,4 +1,4 @@
--- Demand 3. For finite limits, at most 4,096 finite values, stops that 15 does not refuse and a valid set:
+-- Demand 3, for each width mode. For finite limits, at most 4,096 finite values, stops that 15 does not refuse and a valid set:
 -- (a) a sheet is accepted exactly if it is well formed, names that count and set, and marks a test at a point exactly when the set has
 --     the test and the window of its length that ends at the point fits, with no stop in it, and shows its pattern: `accepted-exactly`;
 -- (b) exactly one sheet is accepted: `one-accepted`;
@@ -22,10 +22,9 @@ use Rattle.stops.specs.Stops.{stopsWrong, mainPoints}
 use Rattle.sets.specs.declared.Test.{Test}
 use Rattle.sets.specs.Sets.{has, largest}
 use Rattle.rules.specs.Terms.{Terms, under}
-use Rattle.rules.specs.Lines.{linesOf}
 use Rattle.floats.specs.Finite.{allFinite}
 use Rattle.rules.specs.Finite.{finiteLimits}
-use Rattle.rules.specs.Marking.{newestFirst, stands, cutsOf, marksOf, most, refusal}
+use Rattle.rules.specs.Marking.{newestFirst, stands, cutsOf, linesFor, marksOf, most, refusal}
 use Rattle.rules.proofs.Accepted.{accepts}
 use Rattle.rules.proofs.Meaning.{marked, length-marks, marks-at}
 use Rattle.sheets.specs.declared.Checked.the-variants.{Accepted}
@@ -54,17 +53,17 @@ pub record Right (terms : Terms) (set : ℕ) (values : List Float) (bytes : List
   pub that-count : length marks ≡ length values
   pub that-set : named ≡ set
   pub each-mark : (i : ℕ) (t : Test) → i < length values
-      → has (getD marks i 0) t ≡ (has set t && stands (linesOf (terms .limits)) (newestFirst (cutsOf terms) values (suc i)) t)
+      → has (getD marks i 0) t ≡ (has set t && stands (linesFor terms) (newestFirst (cutsOf terms) values (suc i)) t)
 
 module _ (terms : Terms) (set : ℕ) (values : List Float)
     (few : length values ≤ most) (stopped : stopsWrong (mainPoints (terms .moving) (length values)) (terms .stops) ≡ false)
-    (valid : set ≤ largest) (sound : finiteLimits (terms .limits) ≡ true) (finite : allFinite values ≡ true) where
+    (valid : set ≤ largest) (mode : terms .width ≤ 1) (sound : finiteLimits (terms .limits) ≡ true) (finite : allFinite values ≡ true) where
   right : List ℕ
   right = marksOf terms set values
 
   none-refused : refusal terms set values ≡ 0
   none-refused =
-      accepts terms set values (record { few = few; stopped = stopped; small = valid; sound = sound; finite = finite })
+      accepts terms set values (record { few = few; stopped = stopped; small = valid; mode = mode; sound = sound; finite = finite })
 
   accepted-is : (bytes : List ℕ) → (checkOf terms set values bytes ≡ accepted) ↔ (said bytes ≡ sheet set right)
   unfolding right
@@ -83,7 +82,7 @@ module _ (terms : Terms) (set : ℕ) (values : List Float)
       well-formed = said-sound most largest bytes 0 set (marksOf terms set values) is-bytes (accepted-is bytes .0 e);
       that-count = length-marks terms set values;
       that-set = refl;
-      each-mark = λ i t h. ap (λ (m : ℕ). has m t) (marks-at terms set values i h) ∙ marked (cutsOf terms) (linesOf (terms .limits)) set values i t;
+      each-mark = λ i t h. ap (λ (m : ℕ). has m t) (marks-at terms set values i h) ∙ marked (cutsOf terms) (linesFor terms) set values i t;
     }),
     (λ r.
         let says = well-formed most largest (omega arith) (omega arith) bytes is-bytes (r .named) (r .marks) .1 (r .well-formed) in
@@ -129,37 +128,50 @@ module _ (terms : Terms) (set : ℕ) (values : List Float)
 module _ (κs : Lfts 3) (a : Dens κs check-kinds.ps) (x : resT check-kinds.r κs .Denot)
     (s : AtExit (endedOf 3 check-kinds.ps check-kinds.r) κs)
     (promised : check.Post κs a x s) where
-  pub check-accepts : (x ≡ Accepted) ↔ (checkOf (under (a .1 .1 .1 .0) (a .1 .0 .now) (a .1 .1 .0)) (a .1 .1 .1 .1 .0 .mask) (a .0 .now) (a .1 .1 .1 .1 .1 .0 .now) ≡ accepted)
+  abbrev values : List Float
+  values = a .0 .now
+
+  abbrev terms : Terms
+  terms = under (a .1 .1 .1 .0) (a .1 .1 .1 .1 .0) (a .1 .0 .now) (a .1 .1 .0)
+
+  abbrev set : ℕ
+  set = a .1 .1 .1 .1 .1 .0 .mask
+
+  abbrev bytes : List ℕ
+  bytes = a .1 .1 .1 .1 .1 .1 .0 .now
+
+  pub check-accepts : (x ≡ Accepted) ↔ (checkOf terms set values bytes ≡ accepted)
   check-accepts = ((λ e. sym promised ∙ ap checked e), (λ e. checked-one x Accepted (promised ∙ e)))
 
-  pub check-accepts-exactly : length (a .0 .now) ≤ most → stopsWrong (mainPoints (a .1 .1 .0) (length (a .0 .now))) (a .1 .0 .now) ≡ false
-      → a .1 .1 .1 .1 .0 .mask ≤ largest
-      → finiteLimits (a .1 .1 .1 .0) ≡ true → allFinite (a .0 .now) ≡ true → Bytes (a .1 .1 .1 .1 .1 .0 .now)
-      → (x ≡ Accepted) ↔ Right (under (a .1 .1 .1 .0) (a .1 .0 .now) (a .1 .1 .0)) (a .1 .1 .1 .1 .0 .mask) (a .0 .now) (a .1 .1 .1 .1 .1 .0 .now)
-  check-accepts-exactly few stopped valid sound finite is-bytes =
-      let both = accepted-exactly (under (a .1 .1 .1 .0) (a .1 .0 .now) (a .1 .1 .0)) (a .1 .1 .1 .1 .0 .mask) (a .0 .now) few stopped valid sound finite (a .1 .1 .1 .1 .1 .0 .now) is-bytes in
-      ((λ e. both .0 (check-accepts .0 e)), (λ r. check-accepts .1 (both .1 r)))
+  module _ (few : length values ≤ most) (stopped : stopsWrong (mainPoints (terms .moving) (length values)) (terms .stops) ≡ false)
+      (valid : set ≤ largest) (mode : terms .width ≤ 1) (sound : finiteLimits (terms .limits) ≡ true) (finite : allFinite values ≡ true)
+      (is-bytes : Bytes bytes) where
+    pub check-accepts-exactly : (x ≡ Accepted) ↔ Right terms set values bytes
+    check-accepts-exactly =
+        let both = accepted-exactly terms set values few stopped valid mode sound finite bytes is-bytes in
+        ((λ e. both .0 (check-accepts .0 e)), (λ r. check-accepts .1 (both .1 r)))
 
-  -- (b): of all bytes `check` accepts the one sheet, and no others
-  pub check-accepts-one : length (a .0 .now) ≤ most → stopsWrong (mainPoints (a .1 .1 .0) (length (a .0 .now))) (a .1 .0 .now) ≡ false
-      → a .1 .1 .1 .1 .0 .mask ≤ largest
-      → finiteLimits (a .1 .1 .1 .0) ≡ true → allFinite (a .0 .now) ≡ true → Bytes (a .1 .1 .1 .1 .1 .0 .now)
-      → (x ≡ Accepted) ↔ (a .1 .1 .1 .1 .1 .0 .now ≡ seriesSheet (under (a .1 .1 .1 .0) (a .1 .0 .now) (a .1 .1 .0)) (a .1 .1 .1 .1 .0 .mask) (a .0 .now))
-  check-accepts-one few stopped valid sound finite is-bytes =
-      let one = one-accepted (under (a .1 .1 .1 .0) (a .1 .0 .now) (a .1 .1 .0)) (a .1 .1 .1 .1 .0 .mask) (a .0 .now) few stopped valid sound finite in (
-        (λ e. one .2 (a .1 .1 .1 .1 .1 .0 .now) is-bytes (check-accepts .0 e)),
-        (λ e. check-accepts .1 (ap (checkOf (under (a .1 .1 .1 .0) (a .1 .0 .now) (a .1 .1 .0)) (a .1 .1 .1 .1 .0 .mask) (a .0 .now)) e ∙ one .1)),
-      )
+    -- (b): of all bytes `check` accepts the one sheet, and no others
+    pub check-accepts-one : (x ≡ Accepted) ↔ (bytes ≡ seriesSheet terms set values)
+    check-accepts-one =
+        let one = one-accepted terms set values few stopped valid mode sound finite in (
+          (λ e. one .2 bytes is-bytes (check-accepts .0 e)),
+          (λ e. check-accepts .1 (ap (checkOf terms set values) e ∙ one .1)),
+        )
 
 -- (c): `write` leaves that sheet in every room that holds it
-pub write-gives-it : (κs : Lfts 3) (a : Dens κs write-kinds.ps) (x : resT write-kinds.r κs .Denot)
+module _ (κs : Lfts 3) (a : Dens κs write-kinds.ps) (x : resT write-kinds.r κs .Denot)
     (s : AtExit (endedOf 3 write-kinds.ps write-kinds.r) κs)
-    → write.Post κs a x s
-    → length (a .0 .now) ≤ most → stopsWrong (mainPoints (a .1 .1 .0) (length (a .0 .now))) (a .1 .0 .now) ≡ false
-    → a .1 .1 .1 .1 .0 .mask ≤ largest → finiteLimits (a .1 .1 .1 .0) ≡ true → allFinite (a .0 .now) ≡ true
-    → length (seriesSheet (under (a .1 .1 .1 .0) (a .1 .0 .now) (a .1 .1 .0)) (a .1 .1 .1 .1 .0 .mask) (a .0 .now)) ≤ length (a .1 .1 .1 .1 .1 .0 .now)
-    → (x ≡ Sheet (length (seriesSheet (under (a .1 .1 .1 .0) (a .1 .0 .now) (a .1 .1 .0)) (a .1 .1 .1 .1 .0 .mask) (a .0 .now))))
-    × (s .1 .1 .1 .1 .1 .0 .now ≡ atFront (seriesSheet (under (a .1 .1 .1 .0) (a .1 .0 .now) (a .1 .1 .0)) (a .1 .1 .1 .1 .0 .mask) (a .0 .now)) (a .1 .1 .1 .1 .1 .0 .now))
-write-gives-it κs a x s promised few stopped valid sound finite room =
-    let gives = writer-gives-it (under (a .1 .1 .1 .0) (a .1 .0 .now) (a .1 .1 .0)) (a .1 .1 .1 .1 .0 .mask) (a .0 .now) few stopped valid sound finite (a .1 .1 .1 .1 .1 .0 .now) room in
-    (written-one x (Sheet _) (promised .0 ∙ gives .0), promised .1 ∙ gives .1)
+    (promised : write.Post κs a x s) where
+  abbrev its : List ℕ
+  its = seriesSheet (under (a .1 .1 .1 .0) (a .1 .1 .1 .1 .0) (a .1 .0 .now) (a .1 .1 .0)) (a .1 .1 .1 .1 .1 .0 .mask) (a .0 .now)
+
+  abbrev room : List ℕ
+  room = a .1 .1 .1 .1 .1 .1 .0 .now
+
+  pub write-gives-it : length (a .0 .now) ≤ most → stopsWrong (mainPoints (a .1 .1 .0) (length (a .0 .now))) (a .1 .0 .now) ≡ false
+      → a .1 .1 .1 .1 .1 .0 .mask ≤ largest → a .1 .1 .1 .1 .0 ≤ 1 → finiteLimits (a .1 .1 .1 .0) ≡ true → allFinite (a .0 .now) ≡ true
+      → length its ≤ length room → (x ≡ Sheet (length its)) × (s .1 .1 .1 .1 .1 .1 .0 .now ≡ atFront its room)
+  write-gives-it few stopped valid mode sound finite holds =
+      let gives = writer-gives-it _ _ (a .0 .now) few stopped valid mode sound finite room holds in
+      (written-one x (Sheet _) (promised .0 ∙ gives .0), promised .1 ∙ gives .1)

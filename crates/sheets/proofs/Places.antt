@@ -21,9 +21,8 @@ use Rattle.groups.proofs.Strings.{groups-most, before-zero, before-some, front-
 use Rattle.groups.proofs.Numbers.{read-some, read-over, not-some, not-number}
 use Rattle.groups.proofs.Onward.{by-number}
 use Rattle.rules.specs.Terms.{Terms}
-use Rattle.rules.specs.Lines.{linesOf}
 use Rattle.sets.specs.Sets.{largest}
-use Rattle.rules.specs.Marking.{most, ahead, refusal, marksAt, cutsOf, marksOf}
+use Rattle.rules.specs.Marking.{most, ahead, refusal, marksAt, cutsOf, linesFor, marksOf}
 use Rattle.rules.proofs.Accepted.{was-accepted}
 use Rattle.rules.proofs.Meaning.{marks-lt, length-marks}
 use Rattle.sheets.specs.Sheet.{marked, entriesOf, sheetOf}
@@ -162,7 +161,7 @@ said-within most top s at =
 
 -- Every verdict: a number alone, a form fault with its place, or wrong marks with the position and both marks.
 pub data Bounded : Verdict → Type 0 where
-  alone : {n : ℕ} → n ≤ 15 → (n ≡ 11 → ⊥) → Bounded (n, 0, 0, 0)
+  alone : {n : ℕ} → n ≤ 255 → (n ≡ 11 → ⊥) → Bounded (n, 0, 0, 0)
   form : {p : ℕ} → p ≤ 81950 → Bounded (9, p, 0, 0)
   wrong : {i right stated : ℕ} → i < 4096 → right ≤ 511 → stated ≤ 511 → Bounded (11, i, right, stated)
 
@@ -192,9 +191,9 @@ small-table top f h i zero = nil
 small-table top f h i (suc n) = cons (h i) (small-table top f h (suc i) n)
 
 module _ (terms : Terms) (set : ℕ) (values : List Float) where
-  low : refusal terms set values ≤ 15
+  low : refusal terms set values ≤ 255
   unfolding ahead every
-  low = first-under 15 (ahead terms set values) refl
+  low = first-under 255 (ahead terms set values) refl
 
   other : refusal terms set values ≡ 11 → ⊥
   unfolding ahead every
@@ -204,7 +203,7 @@ module _ (terms : Terms) (set : ℕ) (values : List Float) where
   unfolding marksOf
   marks-small =
       let cut = cutsOf terms in
-      let l = linesOf (terms .limits) in
+      let l = linesFor terms in
       small-table 511 (marksAt cut l set values) (λ i. let h = marks-lt cut l set values i in omega arith) 0 (length values)
 
   marks-few : refusal terms set values ≡ 0 → length (marksOf terms set values) ≤ 4096
@@ -260,7 +259,7 @@ sheet-long set ms low few small =
 
 -- what the writer answers: a number alone, or the length of a sheet
 pub data Short : ℕ × ℕ → Type 0 where
-  number-only : {n : ℕ} → n ≤ 15 → Short (n, 0)
+  number-only : {n : ℕ} → n ≤ 255 → Short (n, 0)
   bytes : {n : ℕ} → n ≤ 16390 → Short (0, n)
 
 pub write-short : (terms : Terms) (set : ℕ) (values : List Float) (room : ℕ) → Short (writeOf terms set values room)

@@ -55,7 +55,7 @@ judged set right (sheet t ms) =
     ((not (eqb (length ms) (length right) && eqb t set), plain 10) ∷ [])
     (firstWrong 0 right ms)
 
--- Checking: what marking refuses ahead of its room (5, 4, 3, 3), then 9, 10, 11.
+-- Checking: what marking refuses ahead of its room (5, 15, 4, 21, 3, 3), then 9, 10, 11.
 unfoldable pub checkOf : Terms → ℕ → List Float → List ℕ → Verdict
 checkOf terms set values s = firstOf (each plain (ahead terms set values)) (judged set (marksOf terms set values) (said s))
 

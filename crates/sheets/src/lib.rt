@@ -19,7 +19,7 @@ ghost use Rattle.sheets.specs.Answers.{checked, written, checkOf, writeO
 pub enum Checked {
     /// The sheet is the one of the series, the limits and the set (0).
     Accepted,
-    /// The series cannot be marked (5, 15, 4 or 3).
+    /// The series cannot be marked (5, 15, 4, 21 or 3).
     Refused(Refusal),
     /// The bytes are no sheet (9). The place is that of the first byte of the number at fault, or of the first byte left over.
     Form { at: usize },
@@ -33,7 +33,7 @@ pub enum Checked {
 pub enum Written {
     /// The sheet stands at the front of the room, so many bytes long (0).
     Sheet(usize),
-    /// The series cannot be marked (5, 15, 4 or 3), or the room is shorter than the sheet (6).
+    /// The series cannot be marked (5, 15, 4, 21 or 3), or the room is shorter than the sheet (6).
     Refused(Refusal),
 }
 
@@ -80,14 +80,15 @@ fn check_in(
     stops: &[usize],
     moving: bool,
     limits: Limits,
+    width: u64,
     set: RuleSet,
     sheet: &[u8],
     marks: &mut [u16],
 ) -> Checked
     requires { ⌜ (length (now values) ≤ most → length (now values) ≤ length (now marks)) ⌝ }
-    ensures { λ r. ⌜ checked r ≡ checkOf (under limits (now (stops .entry)) moving) (set .mask) (now (values .entry)) (now (sheet .entry)) ⌝ }
+    ensures { λ r. ⌜ checked r ≡ checkOf (under limits width (now (stops .entry)) moving) (set .mask) (now (values .entry)) (now (sheet .entry)) ⌝ }
 {
-    match rules::mark(values, stops, moving, limits, set, marks) {
+    match rules::mark(values, stops, moving, limits, width, set, marks) {
         Marked::Done => checker::check_marks(&marks[0..values.len()], set.mask, sheet),
         Marked::Refused(why) => Checked::Refused(why),
     }
@@ -99,15 +100,16 @@ fn write_in(
     stops: &[usize],
     moving: bool,
     limits: Limits,
+    width: u64,
     set: RuleSet,
     out: &mut [u8],
     marks: &mut [u16],
 ) -> Written
     requires { ⌜ (length (now values) ≤ most → length (now values) ≤ length (now marks)) ⌝ }
-    ensures answer { λ r. ⌜ written r ≡ writeOf (under limits (now (stops .entry)) moving) (set .mask) (now (values .entry)) (length (now (out .entry))) ⌝ }
-    ensures room { λ r. ⌜ now (out .exit) ≡ roomAfter (under limits (now (stops .entry)) moving) (set .mask) (now (values .entry)) (now (out .entry)) ⌝ }
+    ensures answer { λ r. ⌜ written r ≡ writeOf (under limits width (now (stops .entry)) moving) (set .mask) (now (values .entry)) (length (now (out .entry))) ⌝ }
+    ensures room { λ r. ⌜ now (out .exit) ≡ roomAfter (under limits width (now (stops .entry)) moving) (set .mask) (now (values .entry)) (now (out .entry)) ⌝ }
 {
-    match rules::mark(values, stops, moving, limits, set, marks) {
+    match rules::mark(values, stops, moving, limits, width, set, marks) {
         Marked::Done => writer::write_marks(&marks[0..values.len()], set.mask, out),
         Marked::Refused(why) => Written::Refused(why),
     }
@@ -117,12 +119,14 @@ fn write_in(
 ///
 /// Gives `Accepted` exactly if the bytes are the sheet that [`write`] gives for these: well formed, with this number of
 /// points and this set, and with test b marked at point i exactly where the set has the test and its window that ends
-/// at i fits, with no stop in it, and shows its pattern. There is exactly one such sheet. What `stops` and `moving` are says
-/// [`rules::mark`].
+/// at i fits, with no stop in it, and shows its pattern. There is exactly one such sheet. What `stops`, `moving` and the width
+/// mode `width` are says [`rules::mark`]; the mode is the caller's and not in the sheet, so a sheet of one mode may be wrong by
+/// the other.
 ///
-/// Refuses, in this order: more than 4,096 values (5), stops that are none of the series (15), a set over 511 (4), limits that are not all finite (3), values
-/// that are not all finite (3), bytes that are no sheet (9, with the place), another number of points or another set
-/// (10), wrong marks (11, with the first such position, the right marks and the stated ones).
+/// Refuses, in this order: more than 4,096 values (5), stops that are none of the series (15), a set over 511 (4), a width mode
+/// that is not 0 or 1 (21), limits that are not all finite (3), values that are not all finite (3), bytes that are no sheet (9,
+/// with the place), another number of points or another set (10), wrong marks (11, with the first such position, the right marks
+/// and the stated ones).
 ///
 /// With no values and the set shewhart, `00 01 00` is accepted, `00 01` is `Form { at: 2 }`, and `00 00 00` is `Differs`.
 pub fn check(
@@ -130,10 +134,11 @@ pub fn check(
     stops: &[usize],
     moving: bool,
     limits: Limits,
+    width: u64,
     set: RuleSet,
     sheet: &[u8],
 ) -> Checked
-    ensures { λ r. ⌜ checked r ≡ checkOf (under limits (now (stops .entry)) moving) (set .mask) (now (values .entry)) (now (sheet .entry)) ⌝ }
+    ensures { λ r. ⌜ checked r ≡ checkOf (under limits width (now (stops .entry)) moving) (set .mask) (now (values .entry)) (now (sheet .entry)) ⌝ }
 {
     if values.len() <= FEW {
         let mut marks = [0u16; FEW];
@@ -142,6 +147,7 @@ pub fn check(
             stops,
             moving,
             limits,
+            width,
             set,
             sheet,
             &mut marks[0..FEW],
@@ -153,18 +159,19 @@ pub fn check(
         stops,
         moving,
         limits,
+        width,
         set,
         sheet,
         &mut marks[0..MOST],
     )
 }
 
-/// Writes the mark sheet of a series, its stops, its limits and a rule set at the front of the room `out`. What `stops` and
-/// `moving` are says [`rules::mark`].
+/// Writes the mark sheet of a series, its stops, its limits and a rule set at the front of the room `out`. What `stops`, `moving`
+/// and the width mode `width` are says [`rules::mark`].
 ///
 /// Gives `Sheet` with the sheet's length; what lies past it is untouched. Refuses, in this order and with `out` as it
-/// came: more than 4,096 values (5), stops that are none of the series (15), a set over 511 (4), limits that are not all
-/// finite (3), values that are not all finite (3), a room shorter than the sheet (6).
+/// came: more than 4,096 values (5), stops that are none of the series (15), a set over 511 (4), a width mode that is not 0 or 1
+/// (21), limits that are not all finite (3), values that are not all finite (3), a room shorter than the sheet (6).
 ///
 /// Ten values of 26.5 with the limits 28.0, 25.0, 22.0 and the set nelson give the nineteen bytes
 /// `0A FF 01 06 04 20 00 20 00 20 00 A0 01 00 A2 01 00 A2 01`.
@@ -173,16 +180,17 @@ pub fn write(
     stops: &[usize],
     moving: bool,
     limits: Limits,
+    width: u64,
     set: RuleSet,
     out: &mut [u8],
 ) -> Written
-    ensures answer { λ r. ⌜ written r ≡ writeOf (under limits (now (stops .entry)) moving) (set .mask) (now (values .entry)) (length (now (out .entry))) ⌝ }
-    ensures room { λ r. ⌜ now (out .exit) ≡ roomAfter (under limits (now (stops .entry)) moving) (set .mask) (now (values .entry)) (now (out .entry)) ⌝ }
+    ensures answer { λ r. ⌜ written r ≡ writeOf (under limits width (now (stops .entry)) moving) (set .mask) (now (values .entry)) (length (now (out .entry))) ⌝ }
+    ensures room { λ r. ⌜ now (out .exit) ≡ roomAfter (under limits width (now (stops .entry)) moving) (set .mask) (now (values .entry)) (now (out .entry)) ⌝ }
 {
     if values.len() <= FEW {
         let mut marks = [0u16; FEW];
-        return write_in(values, stops, moving, limits, set, out, &mut marks[0..FEW]);
+        return write_in(values, stops, moving, limits, width, set, out, &mut marks[0..FEW]);
     }
     let mut marks = [0u16; MOST];
-    write_in(values, stops, moving, limits, set, out, &mut marks[0..MOST])
+    write_in(values, stops, moving, limits, width, set, out, &mut marks[0..MOST])
 }

@@ -14,7 +14,8 @@ use Rattle.sheets.specs.Answers.{Verdict, plain, checkOf, writeOf, roomAfter}
 use Rattle.root.specs.Root.{numbered, rootOf}
 use Rattle.twin.specs.Bytes.{floatsOf, notEights, bytesOf}
 
--- what a series is asked under, by its three limits: no stops come through the boundary (02, R-10: "C calls keep .. no stops")
+-- what a series is asked under, by its three limits: no stops come through the boundary, and no mode (02, R-10: "C calls keep .. no stops,
+-- modes 0")
 abbrev pub termsOf : Float → Float → Float → Terms
 termsOf u c l = unstopped (record { ucl = u; cl = c; lcl = l })
 

@@ -3,6 +3,7 @@
 use root::Rooted;
 use rules::Limits;
 use rules::MOST;
+use rules::SAME_WIDTHS;
 use sets::RuleSet;
 use sheets::Checked;
 use sheets::Written;
@@ -126,7 +127,7 @@ fn mark_values(
     ensures { λ r. ⌜ now (marks .exit) ≡ bytesAfter (unstopped limits) (set .mask) (now (values .entry)) (now (marks .entry)) ⌝ }
 {
     let n = values.len();
-    let marked = rules::mark(values, &[], false, limits, set, ms).number();
+    let marked = rules::mark(values, &[], false, limits, SAME_WIDTHS, set, ms).number();
     if marked != 0 {
         return wide(marked);
     }
@@ -202,6 +203,7 @@ fn check_in(values: &[u8], limits: Limits, set: u32, vs: &mut [f64], sheet: &[u8
         &[],
         false,
         limits,
+        SAME_WIDTHS,
         RuleSet { mask: set as u16 },
         sheet,
     ))
@@ -222,6 +224,7 @@ fn write_in(values: &[u8], limits: Limits, set: u32, vs: &mut [f64], sheet: &mut
         &[],
         false,
         limits,
+        SAME_WIDTHS,
         RuleSet { mask: set as u16 },
         sheet,
     ))

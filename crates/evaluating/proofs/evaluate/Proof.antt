@@ -3,8 +3,9 @@ use mathlib.Core.Path.{_≡_, sym, ap, ap₂, _∙_}
 use mathlib.Core.Bool.{Bool}
 use lib.ListN.{length}
 use Rattle.laws.specs.Refusals.{firstOf}
+use Rattle.rules.specs.Lines.{widthWrong}
 use Rattle.charts.proofs.Answers.{number-some}
-use Rattle.evaluating.specs.Asked.{Asked, asked, interrupted}
+use Rattle.evaluating.specs.Asked.{Asked, asked, interrupted, inMode}
 use Rattle.evaluating.specs.Evaluating.{positionsWrong, noRoom}
 use Rattle.evaluating.specs.Steps.{ahead, tested}
 use Rattle.evaluating.proofs.Outcomes.{number-ahead, answer-refused, slice-refused}
@@ -13,7 +14,7 @@ use Rattle.evaluating.proofs.evaluate.Statement.{statement}
 use Rattle.evaluating.proofs.evaluate.Tie as tie
 
 abbrev question : tie.Start → Asked
-question c = interrupted (asked (c .args .chart) (c .args .values .now)) (c .args .positions .now)
+question c = inMode (interrupted (asked (c .args .chart) (c .args .values .now)) (c .args .positions .now)) (c .args .width)
 
 abbrev short : tie.Start → Bool
 short c =
@@ -23,11 +24,14 @@ short c =
 abbrev wrong : tie.Start → Bool
 wrong c = positionsWrong (c .args .chart) (c .args .positions .now)
 
+abbrev mode : tie.Start → Bool
+mode c = widthWrong (c .args .width)
+
 -- what the tests found, by the definition's words for positions that are wrong and a room too short
-found : (c : tie.After-check) → tested (c .check .result) ≡ firstOf (ahead (question (c .before .before .before .before .before .before .before .before .before)) (wrong (c .before .before .before .before .before .before .before .before .before)) (short (c .before .before .before .before .before .before .before .before .before))) 0
+found : (c : tie.After-check) → (let start = c .before .before .before .before .before .before .before .before .before in tested (c .check .result) ≡ firstOf (ahead (question start) (wrong start) (mode start) (short start)) 0)
 found c =
     let start = c .before .before .before .before .before .before .before .before .before in
-    c .check .ensures ∙ ap₂ (λ (b d : Bool). firstOf (ahead (question start) b d) 0) (c .before .positions-wrong .ensures) (c .before .before .no-room .ensures)
+    c .check .ensures ∙ ap₂ (λ (b d : Bool). firstOf (ahead (question start) b (mode start) d) 0) (c .before .positions-wrong .ensures) (c .before .before .no-room .ensures)
 
 evaluate-requires : tie.Need-evaluate-requires
 evaluate-requires c κs = sym (found (c .before .before .before .before .before .before)) ∙ ap tested (c .before .before .before .before .enum-told .given .1)
@@ -38,27 +42,27 @@ returns c =
     let is = c .before .why .given .1 in
     let all = found (c .before .before .before) in
     let a = question start in (
-      answer-refused a (short start) _ (number-ahead a (wrong start) (short start) is all) (number-some (c .before .why .given .0 .0)),
+      answer-refused a (short start) _ (number-ahead a (wrong start) (mode start) (short start) is all) (number-some (c .before .why .given .0 .0)),
       (
-        slice-refused a (wrong start) (short start) is all _ _ _,
+        slice-refused a (wrong start) (mode start) (short start) is all _ _ _,
         (
-          slice-refused a (wrong start) (short start) is all _ _ _,
-          (slice-refused a (wrong start) (short start) is all _ _ _, slice-refused a (wrong start) (short start) is all _ _ _),
+          slice-refused a (wrong start) (mode start) (short start) is all _ _ _,
+          (slice-refused a (wrong start) (mode start) (short start) is all _ _ _, slice-refused a (wrong start) (mode start) (short start) is all _ _ _),
         ),
       ),
     )
 
 same-length : tie.Need-same-length
-same-length c = c .before .before .before .before .before .before .before .before .evaluate .kept .1 .1 .1 .0
+same-length c = c .before .before .before .before .before .before .before .before .evaluate .kept .1 .1 .1 .1 .0
 
 same-length-2 : tie.Need-same-length-2
-same-length-2 c = c .before .before .before .before .before .before .before .before .evaluate .kept .1 .1 .1 .1 .0
+same-length-2 c = c .before .before .before .before .before .before .before .before .evaluate .kept .1 .1 .1 .1 .1 .0
 
 same-length-3 : tie.Need-same-length-3
-same-length-3 c = c .before .before .before .before .before .before .before .before .evaluate .kept .1 .1 .1 .1 .1 .0
+same-length-3 c = c .before .before .before .before .before .before .before .before .evaluate .kept .1 .1 .1 .1 .1 .1 .0
 
 same-length-4 : tie.Need-same-length-4
-same-length-4 c = c .before .before .before .before .before .before .before .before .evaluate .kept .1 .1 .1 .1 .1 .1 .0
+same-length-4 c = c .before .before .before .before .before .before .before .before .evaluate .kept .1 .1 .1 .1 .1 .1 .1 .0
 
 returns-2 : tie.Need-returns-2
 returns-2 c = c .before .before .before .before .before .before .before .before .evaluate .ensures

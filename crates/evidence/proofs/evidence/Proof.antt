@@ -27,7 +27,7 @@ part-result-end c = search needs
 returns : tie.Need-returns
 returns c =
     let args = c .before .before .before .before .before .before .args in
-    let part = main-part (args .main .now) (args .dispersion .now) (args .series) (under (args .limits) (args .stops .now) (args .moving)) (args .at) (args .bit) (c .before .before .if1 .taken) in
+    let part = main-part (args .main .now) (args .dispersion .now) (args .series) (under (args .limits) (args .width) (args .stops .now) (args .moving)) (args .at) (args .bit) (c .before .before .if1 .taken) in
     rw (part, ← c .before .span-at .ensures .0)
     (record { block = refl; place = search needs; values = search needs })
 
@@ -48,7 +48,7 @@ returns-2 c =
     let args = c .before .before .before .before .before .before .before .before .args in
     let span = c .before .before .span-at2 .ensures .0 in
     let ends = ap (λ (s : Span). s .end) (sym span) ∙ c .before .if3 .taken in
-    rw (second-none (args .main .now) (args .dispersion .now) (args .series) (under (args .limits) (args .stops .now) (args .moving)) (args .at) (args .bit) (c .before .before .before .if2 .taken) ends)
+    rw (second-none (args .main .now) (args .dispersion .now) (args .series) (under (args .limits) (args .width) (args .stops .now) (args .moving)) (args .at) (args .bit) (c .before .before .before .if2 .taken) ends)
     (record { block = refl; place = search needs; values = search needs })
 
 mul-result-2 : tie.Need-mul-result-2
@@ -67,7 +67,7 @@ returns-3 : tie.Need-returns-3
 returns-3 c =
     let args = c .before .before .before .before .before .before .before .before .args in
     let span = c .before .before .span-at2 .ensures .0 in
-    let part = second-part (args .main .now) (args .dispersion .now) (args .series) (under (args .limits) (args .stops .now) (args .moving)) (args .at) (args .bit) (c .before .before .before .if2 .taken)
+    let part = second-part (args .main .now) (args .dispersion .now) (args .series) (under (args .limits) (args .width) (args .stops .now) (args .moving)) (args .at) (args .bit) (c .before .before .before .if2 .taken)
     (λ e. c .before .if3 .left (ap (λ (s : Span). s .end) span ∙ e)) in
     rw (part, ← span)
     (record { block = refl; place = search needs; values = search needs })
@@ -85,7 +85,7 @@ returns-4 : tie.Need-returns-4
 returns-4 c =
     let args = c .before .before .before .before .before .before .args in
     let neither : 2 ≤ args .series = omega (arith, c .before .before .if1 .left, c .before .if2 .left) in
-    rw (no-series (args .main .now) (args .dispersion .now) (args .series) (under (args .limits) (args .stops .now) (args .moving)) (args .at) (args .bit) neither)
+    rw (no-series (args .main .now) (args .dispersion .now) (args .series) (under (args .limits) (args .width) (args .stops .now) (args .moving)) (args .at) (args .bit) neither)
     (record { block = refl; place = search needs; values = search needs })
 
 pub evidence-spec : {M : Type 1} → statement M

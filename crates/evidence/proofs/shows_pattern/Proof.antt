@@ -10,7 +10,7 @@ use Rattle.laws.proofs.OneBit.{one-shl}
 use Rattle.sets.specs.Sets.{bitOf}
 use Rattle.sets.proofs.Sets.{bitOf-lt}
 use Rattle.rules.specs.Marking.{answerOf}
-use Rattle.rules.specs.Terms.{unstopped}
+use Rattle.rules.specs.Terms.{alone}
 use Rattle.evidence.proofs.Behind.{part-bounds, refused-alone, marked-alone}
 use borrow.Author.Needs.{needs}
 use Rattle.evidence.proofs.shows_pattern.Statement.{statement}
@@ -21,11 +21,11 @@ use Rattle.evidence.proofs.shows_pattern.Tie as tie
 abbrev mask : tie.After-bit → ℕ
 mask c = (1 * 2 ^ c .bit .result) % 2 ^ 16
 
-alone : (c : tie.After-bit) → mask c ≡ 2 ^ bitOf (c .before .before .args .t)
-alone c =
+one : (c : tie.After-bit) → mask c ≡ 2 ^ bitOf (c .before .before .args .t)
+one c =
     one-shl (c .bit .result) 16 (omega (arith, c .bit .ensures, bitOf-lt (c .before .before .args .t))) ∙ ap (λ (k : ℕ). 2 ^ k) (c .bit .ensures)
 
-answered : (c : tie.After-number) → c .number .result ≡ answerOf (unstopped (c .before .before .before .before .before .before .before .args .limits)) (mask (c .before .before .before .before .before)) (c .before .before .before .before .before .before .before .args .part .now) 15
+answered : (c : tie.After-number) → c .number .result ≡ answerOf (alone (c .before .before .before .before .before .before .before .args .limits) (c .before .before .before .before .before .before .before .args .width)) (mask (c .before .before .before .before .before)) (c .before .before .before .before .before .before .before .args .part .now) 15
 answered c = c .number .ensures ∙ c .before .before .mark .ensures .0
 
 -- ---- the needs
@@ -33,7 +33,7 @@ answered c = c .number .ensures ∙ c .before .before .mark .ensures .0
 returns : tie.Need-returns
 returns c =
     let s = c .before .before .before .before .before .before .before .before in
-    refused-alone (s .args .limits) (s .args .t) (s .args .part .now) (s .pre) _ (alone (c .before .before .before .before .before .before)) (λ e. c .if1 .taken (answered (c .before) ∙ e))
+    refused-alone (s .args .limits) (s .args .width) (s .args .t) (s .args .part .now) (s .pre) _ (one (c .before .before .before .before .before .before)) (λ e. c .if1 .taken (answered (c .before) ∙ e))
 
 sub-result : tie.Need-sub-result
 sub-result c =
@@ -49,7 +49,7 @@ returns-2 : tie.Need-returns-2
 returns-2 c =
     let s = c .before .before .before .before .before .before .before .before in
     ap (λ (m : List ℕ). not (eqb (getD m (length (s .args .part .now) - 1) 0) 0)) (c .before .before .before .mark .ensures .1)
-    ∙ marked-alone (s .args .limits) (s .args .t) (s .args .part .now) (s .pre) _ (alone (c .before .before .before .before .before .before)) (sym (answered (c .before)) ∙ c .if1 .left)
+    ∙ marked-alone (s .args .limits) (s .args .width) (s .args .t) (s .args .part .now) (s .pre) _ (one (c .before .before .before .before .before .before)) (sym (answered (c .before)) ∙ c .if1 .left)
 
 pub shows-pattern-spec : {M : Type 1} → statement M
 shows-pattern-spec =

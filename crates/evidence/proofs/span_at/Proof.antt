@@ -28,12 +28,12 @@ stopped : (c : tie.Else2) → (let a = c .before .before .before .before .before
 stopped c = sym (c .before .wrong .ensures) ∙ c .if2 .left
 
 shown : (c : tie.After-shows-pattern)
-    → c .shows-pattern .result ≡ (let a = c .before .before .before .before .before .before .before .before .before .before .before .before .before .before .before .args in shownAt (a .series .now) (under (a .limits) (a .stops .now) (a .moving)) (a .at) (a .bit))
+    → c .shows-pattern .result ≡ (let a = c .before .before .before .before .before .before .before .before .before .before .before .before .before .before .before .args in shownAt (a .series .now) (under (a .limits) (a .width) (a .stops .now) (a .moving)) (a .at) (a .bit))
 shown c =
     let w = c .before .before .before .before .before in
     let a = c .before .before .before .before .before .before .before .before .before .before .before .before .before .before .before .args in
     c .shows-pattern .ensures
-    ∙ shown-by-part _ (under (a .limits) (a .stops .now) (a .moving)) _ _ (test w) (is-test w) _ (w .window .ensures) (c .before .before .before .before .before .before .before .before .before .before .before .before .if1 .left) (stopped (c .before .before .before .before .before .before .before .before .before .before))
+    ∙ shown-by-part _ (under (a .limits) (a .width) (a .stops .now) (a .moving)) _ _ (test w) (is-test w) _ (w .window .ensures) (c .before .before .before .before .before .before .before .before .before .before .before .before .if1 .left) (stopped (c .before .before .before .before .before .before .before .before .before .before))
     (omega (arith, c .before .before .before .since .ensures, c .before .before .if4 .left, c .before .before .before .before .if3 .left))
 
 -- ---- the needs

@@ -1,5 +1,5 @@
 -- `report_chart` meets its contract: refused for its values or by evaluating, or told. Assumes nothing.
-use mathlib.Core.Path.{_≡_, sym, ap, ap₂, _∙_}
+use mathlib.Core.Path.{_≡_, refl, sym, ap, ap₂, _∙_}
 use mathlib.Core.Bool.{true, false, not}
 use mathlib.Core.List.{List}
 use Prim.Native.Nat.{ℕ, _+_, _-_}
@@ -74,27 +74,27 @@ done : (c : tie.After-e) → evaluated (Done (c .e .given .0 .0)) ≡ evaluateOf
 done c = sym (ap evaluated (c .e .given .1)) ∙ answer (evaluating c)
 
 none-refused : (c : tie.After-e) → refusalOf (question (first c)) ≡ 0
-none-refused c = let s = first c in done-so (question s) (legal s) (whole s) (finite s) (c .e .given .0 .0) (done c)
+none-refused c = let s = first c in done-so (question s) (legal s) (whole s) (finite s) refl (c .e .given .0 .0) (done c)
 
 main-is : (c : tie.After-e) → c .e .given .0 .0 .main ≡ limitsOf (question (first c)) 0
-main-is c = let s = first c in main-limits (question s) (legal s) (whole s) (finite s) (c .e .given .0 .0) (done c)
+main-is c = let s = first c in main-limits (question s) (legal s) (whole s) (finite s) refl (c .e .given .0 .0) (done c)
 
 dispersion-is : (c : tie.After-e) → c .e .given .0 .0 .dispersion ≡ limitsOf (question (first c)) 1
-dispersion-is c = let s = first c in dispersion-limits (question s) (legal s) (whole s) (finite s) (c .e .given .0 .0) (done c)
+dispersion-is c = let s = first c in dispersion-limits (question s) (legal s) (whole s) (finite s) refl (c .e .given .0 .0) (done c)
 
 number-is : (c : tie.After-e)
     → c .e .given .0 .0 .marks ≡ numberOf (seriesMarks (question (first c)) 0) + numberOf (seriesMarks (question (first c)) 1)
-number-is c = let s = first c in marks-number (question s) (legal s) (whole s) (finite s) (c .e .given .0 .0) (done c)
+number-is c = let s = first c in marks-number (question s) (legal s) (whole s) (finite s) refl (c .e .given .0 .0) (done c)
 
 -- what a slice for marks holds, the answer being known
 abbrev left : tie.After-e → ℕ → Evaluated → List ℕ
 left c s r = lentAfter (evaluated r .number) 0 (seriesMarks (question (first c)) s) (replicate 2048 0)
 
 abbrev marks : tie.After-e → List ℕ
-marks c = evaluating c .evaluate .last .1 .1 .1 .1 .1 .0
+marks c = evaluating c .evaluate .last .1 .1 .1 .1 .1 .1 .0
 
 abbrev others : tie.After-e → List ℕ
-others c = evaluating c .evaluate .last .1 .1 .1 .1 .1 .1 .0
+others c = evaluating c .evaluate .last .1 .1 .1 .1 .1 .1 .1 .0
 
 marks-are : (c : tie.After-e) → take (question (first c) .chart .count - 0) (marks c) ≡ seriesMarks (question (first c)) 0
 marks-are c =
@@ -174,7 +174,7 @@ part-tell-end : tie.Need-part-tell-end
 part-tell-end c =
     let place = c .before .before .before in
     let s = first place in
-    omega (arith, few-samples (question s .chart) (legal s), evaluating place .evaluate .kept .1 .1 .1 .1 .1 .0, length-replicate {A = ℕ} 2048 0)
+    omega (arith, few-samples (question s .chart) (legal s), evaluating place .evaluate .kept .1 .1 .1 .1 .1 .1 .0, length-replicate {A = ℕ} 2048 0)
 
 sub-tell-2 : tie.Need-sub-tell-2
 sub-tell-2 c = search needs
@@ -186,7 +186,7 @@ part-tell-end-2 : tie.Need-part-tell-end-2
 part-tell-end-2 c =
     let place = c .before .before .before .before .before in
     let s = first place in
-    let kept = evaluating place .evaluate .kept .1 .1 .1 .1 .1 .1 .0 in
+    let kept = evaluating place .evaluate .kept .1 .1 .1 .1 .1 .1 .1 .0 in
     omega (arith, points-fit (question s .chart) (legal s) 1, ranges (c .before .before .before), kept, length-replicate {A = ℕ} 2048 0)
 
 tell-requires : tie.Need-tell-requires
@@ -216,7 +216,7 @@ returns-2 c =
     let place = c .before .before .before .before .before .before .before .before .before .before .before .before in
     let s = start place in
     let is = sym (ap evaluated (why .1)) ∙ answer place in
-    let refused = refused-so (question s) (legal s) (whole s) (finite s) (why .0 .0) is in
+    let refused = refused-so (question s) (legal s) (whole s) (finite s) refl (why .0 .0) is in
     let told = report-refused (question s) (number (why .0 .0)) refused (number-some (why .0 .0)) in
     told-as _ _ (s .before .before .before .before .args .out .now) (ap rLine (c .before .before .before .before .number .ensures) ∙ told) (c .before .before .refuse2 .ensures)
 

@@ -37,36 +37,46 @@ returns-3 c =
 returns-4 : tie.Need-returns-4
 unfolding ahead firstOf
 returns-4 c =
-    let set = c .before .before in
+    let set = c .before in
     let stops = set .before .before in
-    let many = stops .before .before in
-    let args = many .before .before .before .args in
-    let limits : finiteLimits (args .limits) ≡ false = sym (c .before .finite-limits .ensures) ∙ not-true _ (c .if4 .taken) in
-    simp (le-ltb _ _ (many .if1 .left), stopped stops, le-ltb _ _ (set .if3 .left), limits)
+    simp (le-ltb _ _ (stops .before .before .if1 .left), stopped stops, le-ltb _ _ (set .if3 .left), lt-ltb _ _ (c .if4 .taken))
 
 returns-5 : tie.Need-returns-5
 unfolding ahead firstOf
 returns-5 c =
-    let finite = c .before .before in
-    let set = finite .before .before in
+    let mode = c .before .before in
+    let set = mode .before in
     let stops = set .before .before in
     let many = stops .before .before in
     let args = many .before .before .before .args in
-    let limits : finiteLimits (args .limits) ≡ true = sym (finite .before .finite-limits .ensures) ∙ not-false _ (finite .if4 .left) in
-    let values : allFinite (args .values .now) ≡ false = sym (c .before .all-finite .ensures) ∙ not-true _ (c .if5 .taken) in
-    simp (le-ltb _ _ (many .if1 .left), stopped stops, le-ltb _ _ (set .if3 .left), limits, values)
+    let limits : finiteLimits (args .limits) ≡ false = sym (c .before .finite-limits .ensures) ∙ not-true _ (c .if5 .taken) in
+    simp (le-ltb _ _ (many .if1 .left), stopped stops, le-ltb _ _ (set .if3 .left), le-ltb _ _ (mode .if4 .left), limits)
 
 returns-6 : tie.Need-returns-6
 unfolding ahead firstOf
 returns-6 c =
     let finite = c .before .before in
-    let set = finite .before .before in
+    let mode = finite .before .before in
+    let set = mode .before in
     let stops = set .before .before in
     let many = stops .before .before in
     let args = many .before .before .before .args in
-    let limits : finiteLimits (args .limits) ≡ true = sym (finite .before .finite-limits .ensures) ∙ not-false _ (finite .if4 .left) in
-    let values : allFinite (args .values .now) ≡ true = sym (c .before .all-finite .ensures) ∙ not-false _ (c .if5 .left) in
-    simp (le-ltb _ _ (many .if1 .left), stopped stops, le-ltb _ _ (set .if3 .left), limits, values)
+    let limits : finiteLimits (args .limits) ≡ true = sym (finite .before .finite-limits .ensures) ∙ not-false _ (finite .if5 .left) in
+    let values : allFinite (args .values .now) ≡ false = sym (c .before .all-finite .ensures) ∙ not-true _ (c .if6 .taken) in
+    simp (le-ltb _ _ (many .if1 .left), stopped stops, le-ltb _ _ (set .if3 .left), le-ltb _ _ (mode .if4 .left), limits, values)
+
+returns-7 : tie.Need-returns-7
+unfolding ahead firstOf
+returns-7 c =
+    let finite = c .before .before in
+    let mode = finite .before .before in
+    let set = mode .before in
+    let stops = set .before .before in
+    let many = stops .before .before in
+    let args = many .before .before .before .args in
+    let limits : finiteLimits (args .limits) ≡ true = sym (finite .before .finite-limits .ensures) ∙ not-false _ (finite .if5 .left) in
+    let values : allFinite (args .values .now) ≡ true = sym (c .before .all-finite .ensures) ∙ not-false _ (c .if6 .left) in
+    simp (le-ltb _ _ (many .if1 .left), stopped stops, le-ltb _ _ (set .if3 .left), le-ltb _ _ (mode .if4 .left), limits, values)
 
 pub ahead-spec : {M : Type 1} → statement M
 ahead-spec =
@@ -76,8 +86,9 @@ ahead-spec =
     (λ c κs. search needs)
     returns-2
     returns-3
-    (λ c κs. search needs)
     returns-4
     (λ c κs. search needs)
     returns-5
-    returns-6)
+    (λ c κs. search needs)
+    returns-6
+    returns-7)

@@ -21,9 +21,9 @@ abbrev start : tie.After-enum-told → tie.Start
 start c = c .before .before .before .before .before .before .before .before .before .before
 
 abbrev terms : tie.Start → Terms
-terms s = under (s .args .limits) (s .args .stops .now) (s .args .moving)
+terms s = under (s .args .limits) (s .args .width) (s .args .stops .now) (s .args .moving)
 
-done : (c : tie.After-enum-told) → Made (terms (start c)) (start c .args .set .mask) (start c .args .values .now) (start c .args .marks .now) (c .before .before .before .before .mark .last .1 .1 .1 .1 .1 .0)
+done : (c : tie.After-enum-told) → Made (terms (start c)) (start c .args .set .mask) (start c .args .values .now) (start c .args .marks .now) (c .before .before .before .before .mark .last .1 .1 .1 .1 .1 .1 .0)
 done c =
     let s = start c in
     let mark = c .before .before .before .before .mark in
@@ -31,7 +31,7 @@ done c =
     (ap numbered (c .enum-told .given .1)) (mark .ensures .1)
 
 part-check-marks-end : tie.Need-part-check-marks-end
-part-check-marks-end c = omega (arith, done (c .before) .room, c .before .before .before .before .before .mark .kept .1 .1 .1 .1 .1 .0)
+part-check-marks-end c = omega (arith, done (c .before) .room, c .before .before .before .before .before .mark .kept .1 .1 .1 .1 .1 .1 .0)
 
 returns : tie.Need-returns
 returns c =
@@ -39,7 +39,7 @@ returns c =
     let args = c .before .before .before .before .before .before .before .before .before .before .before .before .before .args in
     c .check-marks .ensures
     ∙ ap (λ (ms : List ℕ). judged (args .set .mask) ms (said (args .sheet .now))) (all .front)
-    ∙ check-done (under (args .limits) (args .stops .now) (args .moving)) (args .set .mask) (args .values .now) (all .none) (args .sheet .now)
+    ∙ check-done (under (args .limits) (args .width) (args .stops .now) (args .moving)) (args .set .mask) (args .values .now) (all .none) (args .sheet .now)
 
 returns-2 : tie.Need-returns-2
 returns-2 c =

@@ -23,9 +23,9 @@ abbrev start : tie.After-enum-told → tie.Start
 start c = c .before .before .before .before .before .before .before .before .before .before
 
 abbrev terms : tie.Start → Terms
-terms s = under (s .args .limits) (s .args .stops .now) (s .args .moving)
+terms s = under (s .args .limits) (s .args .width) (s .args .stops .now) (s .args .moving)
 
-done : (c : tie.After-enum-told) → Made (terms (start c)) (start c .args .set .mask) (start c .args .values .now) (start c .args .marks .now) (c .before .before .before .before .mark .last .1 .1 .1 .1 .1 .0)
+done : (c : tie.After-enum-told) → Made (terms (start c)) (start c .args .set .mask) (start c .args .values .now) (start c .args .marks .now) (c .before .before .before .before .mark .last .1 .1 .1 .1 .1 .1 .0)
 done c =
     let s = start c in
     let mark = c .before .before .before .before .mark in
@@ -33,7 +33,7 @@ done c =
     (ap numbered (c .enum-told .given .1)) (mark .ensures .1)
 
 part-write-marks-end : tie.Need-part-write-marks-end
-part-write-marks-end c = omega (arith, done (c .before) .room, c .before .before .before .before .before .mark .kept .1 .1 .1 .1 .1 .0)
+part-write-marks-end c = omega (arith, done (c .before) .room, c .before .before .before .before .before .mark .kept .1 .1 .1 .1 .1 .1 .0)
 
 write-marks-requires : tie.Need-write-marks-requires
 write-marks-requires c κs =

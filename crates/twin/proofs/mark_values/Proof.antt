@@ -17,7 +17,7 @@ abbrev terms : tie.Start → Terms
 terms s = unstopped (s .args .limits)
 
 -- marking refused nothing
-done : (c : tie.Else1) → (let s = c .before .before .before .before .before .before .before .before .before .before in Made (terms s) (s .args .set .mask) (s .args .values .now) (s .args .ms .now) (c .before .before .before .before .mark .last .1 .1 .1 .1 .1 .0))
+done : (c : tie.Else1) → (let s = c .before .before .before .before .before .before .before .before .before .before in Made (terms s) (s .args .set .mask) (s .args .values .now) (s .args .ms .now) (c .before .before .before .before .mark .last .1 .1 .1 .1 .1 .1 .0))
 done c =
     let s = c .before .before .before .before .before .before .before .before .before .before in
     let mark = c .before .before .before .before .mark in
@@ -39,7 +39,7 @@ returns-2 c =
     bytes-short (terms s) (s .args .set .mask) (s .args .values .now) (done (c .before) .none) (s .args .marks .now) (c .if2 .taken)
 
 part-put-marks-end : tie.Need-part-put-marks-end
-part-put-marks-end c = omega (arith, done (c .before .before) .room, c .before .before .before .before .before .before .mark .kept .1 .1 .1 .1 .1 .0)
+part-put-marks-end c = omega (arith, done (c .before .before) .room, c .before .before .before .before .before .before .mark .kept .1 .1 .1 .1 .1 .1 .0)
 
 returns-3 : tie.Need-returns-3
 returns-3 c =

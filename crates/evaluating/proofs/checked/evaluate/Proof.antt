@@ -5,9 +5,10 @@ use native.Mathlib.Omega.{arith}
 use borrow.Author.Tests.{not-true, not-false}
 use lib.ListN.{length}
 use Rattle.laws.proofs.LentAfter.{slice-7, slice-done}
+use Rattle.rules.specs.Lines.{widthWrong}
 use Rattle.evaluating.specs.declared.Evaluation.{Evaluation}
 use Rattle.evaluating.specs.declared.limits.Measured.{Measured}
-use Rattle.evaluating.specs.Asked.{Asked, asked, interrupted}
+use Rattle.evaluating.specs.Asked.{Asked, asked, interrupted, inMode}
 use Rattle.evaluating.specs.Limits.{limitsOf}
 use Rattle.evaluating.specs.Evaluating.{answerDone, positionsWrong, noRoom, sound}
 use Rattle.evaluating.specs.Steps.{measured}
@@ -25,7 +26,7 @@ abbrev values : tie.Start → Asked
 values c = asked (c .args .c) (c .args .values .now)
 
 abbrev question : tie.Start → Asked
-question c = interrupted (values c) (c .args .positions .now)
+question c = inMode (interrupted (values c) (c .args .positions .now)) (c .args .width)
 
 abbrev wrong : tie.Start → Bool
 wrong c = positionsWrong (c .args .c) (c .args .positions .now)
@@ -35,8 +36,8 @@ short c =
     noRoom (c .args .c) (length (c .args .main .now)) (length (c .args .dispersion .now))
     (length (c .args .main-marks .now)) (length (c .args .dispersion-marks .now))
 
-fine : (c : tie.Start) → Ahead (question c) (wrong c) (short c)
-fine c = were-ahead _ _ _ (c .pre)
+fine : (c : tie.Start) → Ahead (question c) (wrong c) (widthWrong (c .args .width)) (short c)
+fine c = were-ahead _ _ _ _ (c .pre)
 
 room : (c : tie.Start)
     → Rooms (c .args .c) (length (c .args .main .now)) (length (c .args .dispersion .now))
@@ -46,7 +47,7 @@ room c = rooms _ _ _ _ _ (fine c .room)
 -- ---- what was measured
 
 measure-is : (c : tie.After-measure) → c .measure .result ≡ measured (question (c .before .before .before .before .before .before .before .before .before .before .before))
-measure-is c = let start = c .before .before .before .before .before .before .before .before .before .before .before in c .measure .ensures .0 ∙ sym (same-measures (values start) (start .args .positions .now))
+measure-is c = let start = c .before .before .before .before .before .before .before .before .before .before .before in c .measure .ensures .0 ∙ sym (same-measures (values start) (start .args .positions .now) (start .args .width))
 
 measured-sound : (c : tie.After-measure) → c .measure .result .sound ≡ sound (question (c .before .before .before .before .before .before .before .before .before .before .before))
 measured-sound c = ap (λ (w : Measured). w .sound) (measure-is c)
@@ -85,7 +86,7 @@ returns c =
     let measure = c .before .before .before .before .before .before .before .before .before .before .before .before .before .before .before .before .before .before .before .measure in
     let zeroed = c .before .before .before .before .before .before .before .before .zero-all .ensures in
     let wild = sym (measured-sound (c .before .before .before .before .before .before .before .before .before .before .before .before .before .before .before .before .before .before .before)) ∙ not-true _ (c .before .before .before .before .before .before .before .before .before .before .before .before .before .if1 .taken) in (
-      answer-refused _ _ 7 (number-7 (question start) (wrong start) (short start) (start .pre) wild) (λ z. omega arith),
+      answer-refused _ _ 7 (number-7 (question start) (wrong start) (widthWrong (start .args .width)) (short start) (start .pre) wild) (λ z. omega arith),
       (
         slice-7 _ _ _ (measure .last .1 .1 .0) (measure .kept .1 .1 .0) (zeroed .0),
         (
@@ -117,10 +118,10 @@ mark-both-requires c κs =
     let main = front-series (values start) 0 _ (start .args .main .now) _ (c .before .before .before .before .before .before .before .before .before .before .before .before .before .before .before .before .before .before .before .points-in .ensures) (at .measure .ensures .1 .0) in
     let dispersion = front-series (values start) 1 _ (start .args .dispersion .now) _ (c .before .before .before .before .before .before .before .before .before .before .before .before .before .before .before .before .before .before .points-in2 .ensures) (at .measure .ensures .1 .1) in
     let stops = front-stops (start .args .c) (start .args .positions .now) in (
-      marking-done a 0 (main-limits at) (main ∙ sym (same-series (values start) (start .args .positions .now) 0)) stops (moving-main (start .args .c))
-          _ (tests .right) (tests .stopped) (tests .enough) (parts .0) (room start .main-marks-room),
-      marking-done a 1 (dispersion-limits at) (dispersion ∙ sym (same-series (values start) (start .args .positions .now) 1)) stops (moving-is (start .args .c))
-          _ (tests .right) (tests .stopped) (tests .enough) (parts .1) (room start .dispersion-marks-room),
+      marking-done a 0 (main-limits at) (main ∙ sym (same-series (values start) (start .args .positions .now) (start .args .width) 0)) stops (moving-main (start .args .c))
+          _ (tests .right) (tests .stopped) (tests .moded) (tests .enough) (parts .0) (room start .main-marks-room),
+      marking-done a 1 (dispersion-limits at) (dispersion ∙ sym (same-series (values start) (start .args .positions .now) (start .args .width) 1)) stops (moving-is (start .args .c))
+          _ (tests .right) (tests .stopped) (tests .moded) (tests .enough) (parts .1) (room start .dispersion-marks-room),
     )
 
 same-length-5 : tie.Need-same-length-5
@@ -130,10 +131,10 @@ same-length-6 : tie.Need-same-length-6
 same-length-6 c = c .before .before .before .before .before .before .before .before .before .before .before .before .before .before .before .before .before .before .before .before .measure .kept .1 .1 .1 .0
 
 same-length-7 : tie.Need-same-length-7
-same-length-7 c = c .before .before .before .before .mark-both .kept .1 .1 .1 .1 .1 .1 .0
+same-length-7 c = c .before .before .before .before .mark-both .kept .1 .1 .1 .1 .1 .1 .1 .0
 
 same-length-8 : tie.Need-same-length-8
-same-length-8 c = c .before .before .before .before .mark-both .kept .1 .1 .1 .1 .1 .1 .1 .0
+same-length-8 c = c .before .before .before .before .mark-both .kept .1 .1 .1 .1 .1 .1 .1 .1 .0
 
 returns-2 : tie.Need-returns-2
 returns-2 c =
@@ -145,12 +146,12 @@ returns-2 c =
     let points = front-series (values start) 0 _ (start .args .main .now) _ (c .before .before .before .before .before .before .before .before .before .before .before .before .before .before .before .before .before .before .before .before .before .before .before .before .points-in .ensures) (is .0) in
     let ranges = front-series (values start) 1 _ (start .args .dispersion .now) _ (c .before .before .before .before .before .before .before .before .before .before .before .before .before .before .before .before .before .before .before .before .before .before .before .points-in2 .ensures) (is .1) in
     let stops = front-stops (start .args .c) (start .args .positions .now) in
-    let main = marks-are a 0 (main-limits at) (points ∙ sym (same-series (values start) (start .args .positions .now) 0)) stops (moving-main (start .args .c)) in
+    let main = marks-are a 0 (main-limits at) (points ∙ sym (same-series (values start) (start .args .positions .now) (start .args .width) 0)) stops (moving-main (start .args .c)) in
     let dispersion =
-    marks-are a 1 (dispersion-limits at) (ranges ∙ sym (same-series (values start) (start .args .positions .now) 1)) stops (moving-is (start .args .c)) in (
+    marks-are a 1 (dispersion-limits at) (ranges ∙ sym (same-series (values start) (start .args .positions .now) (start .args .width) 1)) stops (moving-is (start .args .c)) in (
       ap (λ (e : Evaluation). answerDone (e .main) (e .dispersion) (e .marks)) (marked .0)
           ∙ done-by a (main-limits at) (dispersion-limits at) main dispersion
-          ∙ answer-done a (short start) (number-0 _ _ _ (start .pre) (was-sound (c .before .before .before .before .before .before .before .before .before .before .before .before .before .before))),
+          ∙ answer-done a (short start) (number-0 _ _ _ _ (start .pre) (was-sound (c .before .before .before .before .before .before .before .before .before .before .before .before .before .before))),
       (
         slice-done _ _ _ (start .args .main .now) (is .0) refl,
         (

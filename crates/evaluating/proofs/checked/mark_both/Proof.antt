@@ -15,10 +15,10 @@ add-marks : tie.Need-add-marks
 add-marks c = search needs
 
 same-length : tie.Need-same-length
-same-length c = c .before .before .before .before .before .before .mark .kept .1 .1 .1 .1 .1 .0
+same-length c = c .before .before .before .before .before .before .mark .kept .1 .1 .1 .1 .1 .1 .0
 
 same-length-2 : tie.Need-same-length-2
-same-length-2 c = c .before .before .mark2 .kept .1 .1 .1 .1 .1 .0
+same-length-2 c = c .before .before .mark2 .kept .1 .1 .1 .1 .1 .1 .0
 
 returns : tie.Need-returns
 returns c =

@@ -21,13 +21,13 @@ right : (c : tie.Else1) → recordWrong (c .before .before .before .args .c) (le
 right c = told (c .before .record-wrong .ensures) (c .if1 .left)
 
 -- nor does 8
-enough : (c : tie.Else3) → tooFew (c .before .before .before .before .before .before .args .c) ≡ false
-enough c = told (c .before .too-few .ensures) (c .if3 .left)
+enough : (c : tie.Else4) → tooFew (c .before .before .before .before .before .before .before .args .c) ≡ false
+enough c = told (c .before .too-few .ensures) (c .if4 .left)
 
 -- the stored values, as the code cuts them out
-cut : (c : tie.After-all-finite) → c .all-finite .result ≡ allFinite (stored (asked (c .before .before .before .before .before .before .before .before .before .before .args .c) (c .before .before .before .before .before .before .before .before .before .before .args .values .now)))
+cut : (c : tie.After-all-finite) → (let a = c .before .before .before .before .before .before .before .before .before .before .before .args in c .all-finite .result ≡ allFinite (stored (asked (a .c) (a .values .now))))
 cut c =
-    let a = c .before .before .before .before .before .before .before .before .before .before .args in
+    let a = c .before .before .before .before .before .before .before .before .before .before .before .args in
     c .all-finite .ensures ∙ ap (λ (n : ℕ). allFinite (take n (a .values .now))) (sub-zero (a .c .count * a .c .size))
 
 -- ---- the needs
@@ -42,27 +42,35 @@ returns-2 : tie.Need-returns-2
 returns-2 c = sym (passed _ _ _ _ (right (c .before)) ∙ refused _ _ _ _ (c .if2 .taken))
 
 returns-3 : tie.Need-returns-3
-returns-3 c = sym (passed _ _ _ _ (right (c .before .before .before)) ∙ passed _ _ _ _ (c .before .before .if2 .left) ∙ refused _ _ _ _ (told (c .before .too-few .ensures) (c .if3 .taken)))
+returns-3 c = sym (passed _ _ _ _ (right (c .before .before)) ∙ passed _ _ _ _ (c .before .if2 .left) ∙ refused _ _ _ _ (c .if3 .taken))
 
 returns-4 : tie.Need-returns-4
 returns-4 c =
-    sym (passed _ _ _ _ (right (c .before .before .before .before)) ∙ passed _ _ _ _ (c .before .before .before .if2 .left) ∙ passed _ _ _ _ (enough (c .before)) ∙ refused _ _ _ _ (c .if4 .taken))
-
-mul-end : tie.Need-mul-end
-mul-end c = omega (arith, held (c .before .before .before .before .before .before .before .before .args .c) (length (c .before .before .before .before .before .before .before .before .args .values .now)) (right (c .before .before .before .before .before)) .figures .all)
-
-part-all-finite-end : tie.Need-part-all-finite-end
-part-all-finite-end c = held (c .before .before .before .before .before .before .before .before .args .c) (length (c .before .before .before .before .before .before .before .before .args .values .now)) (right (c .before .before .before .before .before)) .within
+    sym (passed _ _ _ _ (right (c .before .before .before .before)) ∙ passed _ _ _ _ (c .before .before .before .if2 .left) ∙ passed _ _ _ _ (c .before .before .if3 .left)
+    ∙ refused _ _ _ _ (told (c .before .too-few .ensures) (c .if4 .taken)))
 
 returns-5 : tie.Need-returns-5
 returns-5 c =
-    sym (passed _ _ _ _ (right (c .before .before .before .before .before .before .before .before)) ∙ passed _ _ _ _ (c .before .before .before .before .before .before .before .if2 .left) ∙ passed _ _ _ _ (enough (c .before .before .before .before .before)) ∙ passed _ _ _ _ (c .before .before .before .before .if4 .left)
-    ∙ refused _ _ _ _ (told-not (cut (c .before)) (c .if5 .taken)))
+    sym (passed _ _ _ _ (right (c .before .before .before .before .before)) ∙ passed _ _ _ _ (c .before .before .before .before .if2 .left) ∙ passed _ _ _ _ (c .before .before .before .if3 .left)
+    ∙ passed _ _ _ _ (enough (c .before)) ∙ refused _ _ _ _ (c .if5 .taken))
+
+mul-end : tie.Need-mul-end
+mul-end c = let a = c .before .before .before .before .before .before .before .before .before .args in omega (arith, held (a .c) (length (a .values .now)) (right (c .before .before .before .before .before .before)) .figures .all)
+
+part-all-finite-end : tie.Need-part-all-finite-end
+part-all-finite-end c = let a = c .before .before .before .before .before .before .before .before .before .args in held (a .c) (length (a .values .now)) (right (c .before .before .before .before .before .before)) .within
 
 returns-6 : tie.Need-returns-6
 returns-6 c =
-    sym (passed _ _ _ _ (right (c .before .before .before .before .before .before .before .before)) ∙ passed _ _ _ _ (c .before .before .before .before .before .before .before .if2 .left) ∙ passed _ _ _ _ (enough (c .before .before .before .before .before)) ∙ passed _ _ _ _ (c .before .before .before .before .if4 .left)
-    ∙ passed _ _ _ _ (told-not (cut (c .before)) (c .if5 .left)) ∙ none-applies _)
+    sym (passed _ _ _ _ (right (c .before .before .before .before .before .before .before .before .before)) ∙ passed _ _ _ _ (c .before .before .before .before .before .before .before .before .if2 .left) ∙ passed _ _ _ _ (c .before .before .before .before .before .before .before .if3 .left)
+    ∙ passed _ _ _ _ (enough (c .before .before .before .before .before)) ∙ passed _ _ _ _ (c .before .before .before .before .if5 .left)
+    ∙ refused _ _ _ _ (told-not (cut (c .before)) (c .if6 .taken)))
+
+returns-7 : tie.Need-returns-7
+returns-7 c =
+    sym (passed _ _ _ _ (right (c .before .before .before .before .before .before .before .before .before)) ∙ passed _ _ _ _ (c .before .before .before .before .before .before .before .before .if2 .left) ∙ passed _ _ _ _ (c .before .before .before .before .before .before .before .if3 .left)
+    ∙ passed _ _ _ _ (enough (c .before .before .before .before .before)) ∙ passed _ _ _ _ (c .before .before .before .before .if5 .left)
+    ∙ passed _ _ _ _ (told-not (cut (c .before)) (c .if6 .left)) ∙ none-applies _)
 
 pub check-spec : {M : Type 1} → statement M
 check-spec =
@@ -71,13 +79,14 @@ check-spec =
     (λ c κs. search needs)
     returns
     returns-2
-    (λ c κs. search needs)
     returns-3
+    (λ c κs. search needs)
     returns-4
+    returns-5
     mul-end
     (λ c. search needs)
     (λ c. search needs)
     part-all-finite-end
     (λ c κs. search needs)
-    returns-5
-    returns-6)
+    returns-6
+    returns-7)

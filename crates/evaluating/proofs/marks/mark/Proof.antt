@@ -23,18 +23,18 @@ part-count-end c =
     let mark = c .before .before .before .mark in
     let start = c .before .before .before .before .before .before .before .before in
     let s = start .args in
-    omega (arith, was-done (under (s .limits) (s .stops .now) (s .moving)) (s .set .mask) (s .points .now) (length (s .marks .now)) (start .pre) .1, mark .kept)
+    omega (arith, was-done (under (s .limits) (s .width) (s .stops .now) (s .moving)) (s .set .mask) (s .points .now) (length (s .marks .now)) (start .pre) .1, mark .kept)
 
 count-requires : tie.Need-count-requires
 count-requires c κs =
     let mark = c .before .before .before .before .mark in
     let start = c .before .before .before .before .before .before .before .before .before in
     let s = start .args in
-    let none = was-done (under (s .limits) (s .stops .now) (s .moving)) (s .set .mask) (s .points .now) (length (s .marks .now)) (start .pre) .0 in
-    front-few (length (s .points .now)) (mark .last .1 .1 .1 .1 .1 .0) (was-accepted (under (s .limits) (s .stops .now) (s .moving)) (s .set .mask) (s .points .now) none .few)
+    let none = was-done (under (s .limits) (s .width) (s .stops .now) (s .moving)) (s .set .mask) (s .points .now) (length (s .marks .now)) (start .pre) .0 in
+    front-few (length (s .points .now)) (mark .last .1 .1 .1 .1 .1 .1 .0) (was-accepted (under (s .limits) (s .width) (s .stops .now) (s .moving)) (s .set .mask) (s .points .now) none .few)
 
 same-length : tie.Need-same-length
-same-length c = c .before .before .before .before .before .mark .kept .1 .1 .1 .1 .1 .0
+same-length c = c .before .before .before .before .before .mark .kept .1 .1 .1 .1 .1 .1 .0
 
 returns : tie.Need-returns
 returns c =
@@ -43,8 +43,8 @@ returns c =
     let s = c .before .before .before .before .before .before .before .before .before .before .args in
     let pre = c .before .before .before .before .before .before .before .before .before .before .pre in
     let marked = mark .ensures .1 in (
-      (marks-counted (under (s .limits) (s .stops .now) (s .moving)) (s .set .mask) (s .points .now) (s .marks .now) pre marked (count .ensures .0), count .ensures .1),
-      marked ∙ sym (marks-written (under (s .limits) (s .stops .now) (s .moving)) (s .set .mask) (s .points .now) (s .marks .now) pre),
+      (marks-counted (under (s .limits) (s .width) (s .stops .now) (s .moving)) (s .set .mask) (s .points .now) (s .marks .now) pre marked (count .ensures .0), count .ensures .1),
+      marked ∙ sym (marks-written (under (s .limits) (s .width) (s .stops .now) (s .moving)) (s .set .mask) (s .points .now) (s .marks .now) pre),
     )
 
 pub mark-spec : {M : Type 1} → statement M

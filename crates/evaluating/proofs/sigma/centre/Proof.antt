@@ -20,7 +20,7 @@ use Rattle.evaluating.proofs.sigma.centre.Tie as tie
 abbrev question : tie.Start → Asked
 question c = asked (c .args .c) (c .args .values .now)
 
-passed-tests : (c : tie.After-enum-told) → firstOf (ahead (question (c .before .before .before .before)) false false) 0 ≡ 0
+passed-tests : (c : tie.After-enum-told) → firstOf (ahead (question (c .before .before .before .before)) false false false) 0 ≡ 0
 passed-tests c = sym (c .before .before .check .ensures) ∙ ap tested (c .enum-told .given .1)
 
 measured-sound : (c : tie.After-measure) → c .measure .result .sound ≡ sound (question (c .before .before .before .before .before))
@@ -36,23 +36,23 @@ enum-told : tie.Need-enum-told
 enum-told c = search needs
 
 measure-requires : tie.Need-measure-requires
-measure-requires c κs = were-ahead (question (c .before .before .before .before)) false false (passed-tests c) .right
+measure-requires c κs = were-ahead (question (c .before .before .before .before)) false false false (passed-tests c) .right
 
 returns : tie.Need-returns
 unfolding sigmaNumber
 returns c =
     figure-refused _ Overflow
-    (number-7 _ _ _ (passed-tests (c .before .before .before)) (sym (measured-sound (c .before .before)) ∙ not-true _ (c .if1 .taken))) _
+    (number-7 _ _ _ _ (passed-tests (c .before .before .before)) (sym (measured-sound (c .before .before)) ∙ not-true _ (c .if1 .taken))) _
 
 returns-2 : tie.Need-returns-2
 unfolding sigmaNumber
-returns-2 c = figure-refused _ (c .before .why .given .0 .0) (number-ahead (question (c .before .before .before .before .before)) false false (c .before .why .given .1) (c .before .before .before .check .ensures)) _
+returns-2 c = figure-refused _ (c .before .why .given .0 .0) (number-ahead (question (c .before .before .before .before .before)) false false false (c .before .why .given .1) (c .before .before .before .check .ensures)) _
 
 returns-3 : tie.Need-returns-3
 unfolding sigmaNumber limitsOf bySeries dispersionLimits
 returns-3 c =
     figure-done _
-    (number-0 _ _ _ (passed-tests (c .before .before .before)) (sym (measured-sound (c .before .before)) ∙ not-false _ (c .if1 .left)))
+    (number-0 _ _ _ _ (passed-tests (c .before .before .before)) (sym (measured-sound (c .before .before)) ∙ not-false _ (c .if1 .left)))
     (ap (λ (w : Measured). w .dispersion .cl) (c .before .before .measure .ensures))
 
 pub centre-spec : {M : Type 1} → statement M

@@ -1,0 +1,70 @@
+-- 02's R-5: in width mode 0 all is as it was, stops included; limits as far from the centre line above as below have the same marks in both
+-- modes; and the two modes worked on three values. Assumes nothing.
+use mathlib.Core.Path.{_≡_, refl, ap}
+use mathlib.Core.Bool.{Bool, true, false, not, cond}
+use mathlib.Core.List.{List, [], _∷_}
+use Prim.Native.Nat.{ℕ}
+use lib.Dec.{ltb, eqb}
+use lib.Ieee.{Float, binary64, ofBits, add, sub, mul, div, lt, le}
+use lib.ListN.{length}
+use Rattle.laws.specs.Bools.{every, count}
+use Rattle.laws.specs.Bits.{hasBit, fromBits}
+use Rattle.laws.specs.Lists.{tabulateFrom}
+use Rattle.laws.specs.Refusals.{firstOf, each}
+use Rattle.floats.specs.Finite.{allFinite}
+use Rattle.stops.specs.Stops.{stopAt, cutAt, stopsWrong, mainPoints}
+use Rattle.sets.specs.Sets.{bitOf, tests, has, setOf, tooLarge}
+use Rattle.rules.specs.declared.Limits.{Limits}
+use Rattle.rules.specs.declared.Lines.{Lines}
+use Rattle.rules.specs.Lines.{oneSigma, twoSigma, linesOf}
+use Rattle.rules.specs.Tests.{steps, alternating, window, shows}
+use Rattle.rules.specs.Finite.{finiteLimits}
+use Rattle.rules.specs.Terms.{under}
+use Rattle.rules.specs.Marking.{newestFirst, stands, marksAt, marksBy, marksOf, most, ahead}
+use Rattle.rules.proofs.ZoneLines.{modes-agree}
+use Rattle.promises.proofs.Base.{lines01, lines-are-01}
+
+module _ (l : Limits) (stops : List ℕ) (moving : Bool) (set : ℕ) (values : List Float) where
+  -- ---- mode 0
+
+  -- "5, 15, 4, 3 for limits, 3 for values", as R-1 left them
+  pub aheadStopped : List (Bool × ℕ)
+  aheadStopped =
+      (ltb most (length values), 5)
+      ∷ (stopsWrong (mainPoints moving (length values)) stops, 15)
+      ∷ (tooLarge set, 4)
+      ∷ (not (finiteLimits l), 3)
+      ∷ (not (allFinite values), 3)
+      ∷ []
+
+  -- marking, checking, writing and lanes refuse by them, whatever they answer with a number and else
+  pub refused-as-before : {A : Type 0} (f : ℕ → A) (else : A) → firstOf (each f (ahead (under l 0 stops moving) set values)) else ≡ firstOf (each f aheadStopped) else
+  unfolding ahead each firstOf aheadStopped
+  refused-as-before f else = refl
+
+  -- and the marks are those of 01's lines
+  pub marked-as-before : marksOf (under l 0 stops moving) set values ≡ marksBy (cutAt stops moving) (lines01 l) set values
+  unfolding marksOf
+  marked-as-before = ap (λ (m : Lines). marksBy (cutAt stops moving) m set values) (lines-are-01 l)
+
+  -- ---- "limits symmetric to the bit": both modes agree
+
+  pub marks-agree : sub binary64 (l .cl) (l .lcl) ≡ sub binary64 (l .ucl) (l .cl) → marksOf (under l 1 stops moving) set values ≡ marksOf (under l 0 stops moving) set values
+  unfolding marksOf
+  marks-agree symmetric = ap (λ (m : Lines). marksBy (cutAt stops moving) m set values) (modes-agree l symmetric 1)
+
+-- ---- worked: the limits 31, 25, 22 and two of three values at 22.5
+
+abbrev skew : Limits
+skew = record { ucl = ofBits binary64 0x403f000000000000; cl = ofBits binary64 0x4039000000000000; lcl = ofBits binary64 0x4036000000000000 }
+
+abbrev marksIn : ℕ → List ℕ
+marksIn width = marksOf (under skew width [] false) 511
+    (ofBits binary64 0x4036800000000000 ∷ ofBits binary64 0x4039000000000000 ∷ ofBits binary64 0x4036800000000000 ∷ [])
+
+-- By mode 0 two sigma below the centre line is 21, further down than the lower limit: nothing is marked. By mode 1 it is 23, and two of three
+-- lie beyond it (16).
+both-modes : (marksIn 0 ≡ 0 ∷ 0 ∷ 0 ∷ []) × (marksIn 1 ≡ 0 ∷ 0 ∷ 16 ∷ [])
+unfolding marksOf marksAt cutAt stopAt tabulateFrom newestFirst stands window shows tests bitOf has setOf hasBit fromBits every count steps alternating
+    linesOf oneSigma twoSigma ofBits add sub mul div lt le
+both-modes = (refl, refl)
