@@ -58,6 +58,20 @@ pub struct StoppedChart {
     pub chart: ChartCase,
 }
 
+/// Values to be marked in a width mode (02, R-5), which may be none.
+#[derive(Clone)]
+pub struct ModedMarks {
+    pub width: u64,
+    pub stopped: StoppedMarks,
+}
+
+/// A chart to be evaluated in a width mode.
+#[derive(Clone)]
+pub struct ModedChart {
+    pub width: u64,
+    pub stopped: StoppedChart,
+}
+
 /// Which attribute chart (02, R-2): damaged per parcel inspected, or per unit.
 #[derive(Clone, Copy)]
 pub enum Attribute {
@@ -98,6 +112,8 @@ pub enum Case {
     Chart(ChartCase),
     StoppedMarks(StoppedMarks),
     StoppedChart(StoppedChart),
+    ModedMarks(ModedMarks),
+    ModedChart(ModedChart),
     Adding(AddingCase),
     Attributes(AttributesCase),
     /// The bytes that the report program is given: a flow file, or none.
@@ -124,10 +140,10 @@ pub struct Evaluation {
 pub enum Answer {
     /// One number a value; bit b stands for test b of 01's table.
     Marks(Vec<u16>),
-    /// 01's number 7 or 8; of values with stops 15.
+    /// 01's number 7 or 8; of values with stops 15, in a width mode 21.
     Refused(u8),
-    /// 15 of a chart, with sigma_hat and sigma_hat_df: these take no stops and answer all the same.
-    BadStops([Figure; 2]),
+    /// 15 or 21 of a chart, with sigma_hat and sigma_hat_df: these take neither stops nor a mode and answer all the same.
+    Apart(u8, [Figure; 2]),
     Evaluated(Evaluation),
     /// All that an attribute case answers and leaves in its slices, as FORMAT.md has it.
     Numbers(Vec<u64>),

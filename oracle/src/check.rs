@@ -2,7 +2,7 @@
 
 use crate::case::{Answer, Case, Evaluation, Figure, Limits, MarksCase};
 use crate::format::Judged;
-use crate::scope::{self, WINDOWS};
+use crate::scope::WINDOWS;
 use crate::{judge, show};
 
 /// Values of an input that a line shows: enough for any window.
@@ -24,7 +24,7 @@ fn difference(case: &Case, stored: &Answer) -> Option<String> {
         (_, Answer::Report(s), Answer::Report(r)) => part_difference("line", &lines(s), &lines(r)),
         (_, Answer::Evaluated(s), Answer::Evaluated(r)) => evaluation_difference(s, r),
         (_, Answer::Numbers(s), Answer::Numbers(r)) => part_difference("number", s, r),
-        (_, Answer::BadStops(s), Answer::BadStops(r)) => figures_difference(*s, *r),
+        (_, Answer::Apart(m, s), Answer::Apart(n, r)) if m == n => figures_difference(*s, *r),
         _ => part_difference("answer", &[number(stored)], &[number(&right)]),
     };
     told.map(|told| format!("{told}; input: {}", show::case(case, SHOWN)))
@@ -38,7 +38,7 @@ fn lines(text: &[u8]) -> Vec<String> {
 fn number(answer: &Answer) -> u8 {
     match answer {
         Answer::Refused(number) => *number,
-        Answer::BadStops(_) => scope::BAD_STOPS,
+        Answer::Apart(number, _) => *number,
         _ => 0,
     }
 }

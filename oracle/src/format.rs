@@ -2,7 +2,7 @@
 
 use crate::case::{
     AddingCase, Answer, Attribute, AttributesCase, Case, ChartCase, Evaluation, Figure, Limits, MarksCase,
-    Record, StoppedChart, StoppedMarks,
+    ModedChart, ModedMarks, Record, StoppedChart, StoppedMarks,
 };
 use crate::scope;
 
@@ -17,6 +17,8 @@ const P_ADDING: u64 = 6;
 const U_ADDING: u64 = 7;
 const P_EVALUATING: u64 = 8;
 const U_EVALUATING: u64 = 9;
+const MODED_MARKS: u64 = 10;
+const MODED_CHART: u64 = 11;
 
 /// What leads an answer that is no refusal.
 const DONE: u64 = 0;
@@ -106,15 +108,19 @@ fn put_case(out: &mut Vec<u8>, case: &Case) {
         }
         Case::StoppedMarks(c) => {
             put(out, STOPPED_MARKS);
-            put(out, c.moving.into());
-            put_stops(out, &c.stops);
-            put_marks_case(out, &c.marks);
+            put_stopped_marks(out, c);
         }
         Case::StoppedChart(c) => {
             put(out, STOPPED_CHART);
-            put(out, c.count);
-            put_stops(out, &c.list);
-            put_chart_case(out, &c.chart);
+            put_stopped_chart(out, c);
+        }
+        Case::ModedMarks(c) => {
+            put_numbers(out, &[MODED_MARKS, c.width]);
+            put_stopped_marks(out, &c.stopped);
+        }
+        Case::ModedChart(c) => {
+            put_numbers(out, &[MODED_CHART, c.width]);
+            put_stopped_chart(out, &c.stopped);
         }
         Case::Adding(c) => {
             put(out, tag_of(c.record.attribute, P_ADDING, U_ADDING));
@@ -148,6 +154,18 @@ fn put_chart_case(out: &mut Vec<u8>, c: &ChartCase) {
     put(out, c.set.into());
     put(out, c.count() as u64);
     put_floats(out, &c.values);
+}
+
+fn put_stopped_marks(out: &mut Vec<u8>, c: &StoppedMarks) {
+    put(out, c.moving.into());
+    put_stops(out, &c.stops);
+    put_marks_case(out, &c.marks);
+}
+
+fn put_stopped_chart(out: &mut Vec<u8>, c: &StoppedChart) {
+    put(out, c.count);
+    put_stops(out, &c.list);
+    put_chart_case(out, &c.chart);
 }
 
 /// A list of stops, led by how many they are.
@@ -190,15 +208,15 @@ fn put_bytes(out: &mut Vec<u8>, bytes: &[u8]) {
 fn put_answer(out: &mut Vec<u8>, case: &Case, answer: &Answer) {
     match answer {
         Answer::Marks(marks) => {
-            // Without stops no marks case is refused, and no number says so.
-            if let Case::StoppedMarks(_) = case {
+            // Without stops and a mode no marks case is refused, and no number says so.
+            if let Case::StoppedMarks(_) | Case::ModedMarks(_) = case {
                 put(out, DONE);
             }
             put_marks(out, marks);
         }
         Answer::Refused(number) => put(out, (*number).into()),
-        Answer::BadStops(figures) => {
-            put(out, scope::BAD_STOPS.into());
+        Answer::Apart(number, figures) => {
+            put(out, (*number).into());
             figures.iter().for_each(|&figure| put_figure(out, figure));
         }
         Answer::Evaluated(e) => {
@@ -250,7 +268,7 @@ pub fn read(bytes: &[u8]) -> Result<Vec<Judged>, Fault> {
     let stated = r.number("number of cases")?;
     let mut list = Vec::new();
     loop {
-        list.push(match r.number_within(END, U_EVALUATING, "tag")? {
+        list.push(match r.number_within(END, MODED_CHART, "tag")? {
             END => break,
             MARKS => r.marks_case()?,
             CHART => r.chart_case()?,
@@ -260,7 +278,9 @@ pub fn read(bytes: &[u8]) -> Result<Vec<Judged>, Fault> {
             P_ADDING => r.adding_case(Attribute::P)?,
             U_ADDING => r.adding_case(Attribute::U)?,
             P_EVALUATING => r.attributes_case(Attribute::P)?,
-            _ => r.attributes_case(Attribute::U)?,
+            U_EVALUATING => r.attributes_case(Attribute::U)?,
+            MODED_MARKS => r.moded_marks()?,
+            _ => r.moded_chart()?,
         });
     }
     if list.len() as u64 != stated {
@@ -389,34 +409,59 @@ impl Reader<'_> {
 
     fn chart_case(&mut self) -> Result<Judged, Fault> {
         let case = self.chart_asked()?;
-        let answer = match self.answer(&[DONE, 7, 8])? {
-            DONE => Answer::Evaluated(self.evaluation(case.count())?),
-            number => Answer::Refused(number as u8),
-        };
+        let answer = self.chart_answer(case.count(), &[])?;
         Ok((Case::Chart(case), answer))
     }
 
-    fn stopped_marks(&mut self) -> Result<Judged, Fault> {
+    fn stopped_marks_asked(&mut self) -> Result<StoppedMarks, Fault> {
         let moving = self.number_within(0, 1, "moving")? == 1;
-        let stops = self.stops()?;
-        let marks = self.marks_asked()?;
-        let answer = match self.answer(&[DONE, 15])? {
-            DONE => Answer::Marks(self.marks(marks.values.len())?),
+        Ok(StoppedMarks { moving, stops: self.stops()?, marks: self.marks_asked()? })
+    }
+
+    fn stopped_chart_asked(&mut self) -> Result<StoppedChart, Fault> {
+        let count = self.number("count of stops")?;
+        Ok(StoppedChart { count, list: self.stops()?, chart: self.chart_asked()? })
+    }
+
+    /// The answer to n values, refused by one of these numbers or marked.
+    fn marks_answer(&mut self, n: usize, refusals: &[u64]) -> Result<Answer, Fault> {
+        Ok(match self.answer(&[&[DONE], refusals].concat())? {
+            DONE => Answer::Marks(self.marks(n)?),
             number => Answer::Refused(number as u8),
-        };
-        Ok((Case::StoppedMarks(StoppedMarks { moving, stops, marks }), answer))
+        })
+    }
+
+    /// The answer to a chart of so many samples; behind a number that evaluating has apart both figures stand.
+    fn chart_answer(&mut self, count: usize, apart: &[u64]) -> Result<Answer, Fault> {
+        Ok(match self.answer(&[&[DONE, 7, 8], apart].concat())? {
+            DONE => Answer::Evaluated(self.evaluation(count)?),
+            number if apart.contains(&number) => Answer::Apart(number as u8, [self.figure()?, self.figure()?]),
+            number => Answer::Refused(number as u8),
+        })
+    }
+
+    fn stopped_marks(&mut self) -> Result<Judged, Fault> {
+        let case = self.stopped_marks_asked()?;
+        let answer = self.marks_answer(case.marks.values.len(), &[15])?;
+        Ok((Case::StoppedMarks(case), answer))
     }
 
     fn stopped_chart(&mut self) -> Result<Judged, Fault> {
-        let count = self.number("count of stops")?;
-        let list = self.stops()?;
-        let chart = self.chart_asked()?;
-        let answer = match self.answer(&[DONE, 7, 8, 15])? {
-            DONE => Answer::Evaluated(self.evaluation(chart.count())?),
-            15 => Answer::BadStops([self.figure()?, self.figure()?]),
-            number => Answer::Refused(number as u8),
-        };
-        Ok((Case::StoppedChart(StoppedChart { count, list, chart }), answer))
+        let case = self.stopped_chart_asked()?;
+        let answer = self.chart_answer(case.chart.count(), &[15])?;
+        Ok((Case::StoppedChart(case), answer))
+    }
+
+    fn moded_marks(&mut self) -> Result<Judged, Fault> {
+        let case = ModedMarks { width: self.number("width mode")?, stopped: self.stopped_marks_asked()? };
+        let answer = self.marks_answer(case.stopped.marks.values.len(), &[15, 21])?;
+        Ok((Case::ModedMarks(case), answer))
+    }
+
+    fn moded_chart(&mut self) -> Result<Judged, Fault> {
+        let case = ModedChart { width: self.number("width mode")?, stopped: self.stopped_chart_asked()? };
+        let answer = self.chart_answer(case.stopped.chart.count(), &[15, 21])?;
+        Ok((Case::ModedChart(case), answer))
     }
 
     fn adding_case(&mut self, attribute: Attribute) -> Result<Judged, Fault> {

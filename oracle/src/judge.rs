@@ -1,5 +1,5 @@
-//! Puts a case to the published Rust and takes down what it says. What stops make of it is 02's (stops.rs); attribute charts
-//! stand in attributes.rs.
+//! Puts a case to the published Rust and takes down what it says. What stops and the width mode make of it is 02's (stops.rs,
+//! widths.rs); attribute charts stand in attributes.rs.
 
 use crate::case::{Answer, Case, ChartCase, Evaluation, Limits, MarksCase};
 use crate::{attributes, report, scope, stops};
@@ -7,12 +7,17 @@ use u_analytics::spc::chart::{ChartPoint, ControlChart, ControlLimits, Violation
 use u_analytics::spc::rules::{RuleSet, RunRule};
 use u_analytics::spc::variables::{IndividualMRChart, XBarRChart, XBarSChart};
 
+/// The width mode that the Rust has.
+const OLD: u64 = 0;
+
 pub fn answer(case: &Case) -> Answer {
     match case {
         Case::Marks(c) => Answer::Marks(marks(c)),
         Case::Chart(c) => chart(c),
-        Case::StoppedMarks(c) => stops::marks(c),
-        Case::StoppedChart(c) => stops::chart(c),
+        Case::StoppedMarks(c) => stops::marks(c, OLD),
+        Case::StoppedChart(c) => stops::chart(c, OLD),
+        Case::ModedMarks(c) => stops::marks(&c.stopped, c.width),
+        Case::ModedChart(c) => stops::chart(&c.stopped, c.width),
         Case::Adding(c) => Answer::Numbers(attributes::added(c)),
         Case::Attributes(c) => Answer::Numbers(attributes::evaluated(c)),
         Case::Flow(bytes) => Answer::Report(report::text(bytes)),

@@ -6,8 +6,8 @@ use crate::judge;
 
 const VALUES: u64 = 100_000;
 
-/// After each thousand values come four calls that have to be refused.
-const REFUSED: u64 = VALUES / 1000 * 4;
+/// After each thousand values come five calls that have to be refused.
+const REFUSED: u64 = VALUES / 1000 * 5;
 
 /// All marks are folded into one number modulo this prime.
 const PRIME: u64 = 4_294_967_291;

@@ -18,6 +18,7 @@ mod stops;
 #[cfg(test)]
 mod tests;
 mod trials;
+mod widths;
 
 use case::Case;
 use cases::Part;

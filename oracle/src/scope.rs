@@ -1,8 +1,8 @@
 //! What is document 01's and not the Rust's: the refusals that a stored chart may have.
 //!
 //! Refusal 8 has its twin in the Rust, which then has no limits. Refusal 7 has none: the Rust goes
-//! on with infinities and NaN. 15 is 02's (stops.rs decides it). Every other refusal is kept out of the
-//! cases.
+//! on with infinities and NaN. 15 and 21 are 02's (stops.rs decides them). Every other refusal is kept out
+//! of the cases.
 
 use crate::case::{Evaluation, Figure};
 
@@ -14,6 +14,9 @@ pub const TOO_FEW: u8 = 8;
 
 /// 'stops not strictly rising, outside 1 to the main series' points less one, or more than the list holds'
 pub const BAD_STOPS: u8 = 15;
+
+/// a width 'mode not 0 or 1'
+pub const BAD_WIDTH: u8 = 21;
 
 /// 01's bound on values, samples and points.
 pub const MOST: usize = 4096;

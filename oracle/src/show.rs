@@ -11,6 +11,8 @@ pub fn case(case: &Case, most: usize) -> String {
         Case::Chart(c) => chart_case(c, most),
         Case::StoppedMarks(c) => stopped_marks(c, most),
         Case::StoppedChart(c) => stopped_chart(c, most),
+        Case::ModedMarks(c) => format!("width mode {}, {}", c.width, stopped_marks(&c.stopped, most)),
+        Case::ModedChart(c) => format!("width mode {}, {}", c.width, stopped_chart(&c.stopped, most)),
         Case::Adding(c) => adding_case(c, most),
         Case::Attributes(c) => attributes_case(c, most),
         Case::Flow(bytes) => flow_file(bytes, most),

@@ -2,7 +2,9 @@
 //! stops.
 //! The boldest come first, so that the first that still differs is the best to go on from.
 
-use crate::case::{AddingCase, AttributesCase, Case, ChartCase, MarksCase, StoppedChart, StoppedMarks};
+use crate::case::{
+    AddingCase, AttributesCase, Case, ChartCase, MarksCase, ModedChart, ModedMarks, StoppedChart, StoppedMarks,
+};
 use crate::report;
 use std::ops::Range;
 
@@ -10,29 +12,39 @@ pub fn of(case: &Case) -> Vec<Case> {
     match case {
         Case::Marks(c) => of_marks(c).into_iter().map(|(_, c)| Case::Marks(c)).collect(),
         Case::Chart(c) => of_chart(c).into_iter().map(|(_, c)| Case::Chart(c)).collect(),
-        Case::StoppedMarks(c) => {
-            let fewer = fewer_stops(&c.stops).into_iter().map(|stops| StoppedMarks { stops, ..c.clone() });
-            let easier = of_marks(&c.marks).into_iter().map(|(dropped, marks)| StoppedMarks {
-                stops: moved(&c.stops, dropped),
-                marks,
-                ..c.clone()
-            });
-            easier.chain(fewer).map(Case::StoppedMarks).collect()
+        Case::StoppedMarks(c) => of_stopped_marks(c).into_iter().map(Case::StoppedMarks).collect(),
+        Case::StoppedChart(c) => of_stopped_chart(c).into_iter().map(Case::StoppedChart).collect(),
+        Case::ModedMarks(c) => {
+            let in_mode = |stopped| Case::ModedMarks(ModedMarks { width: c.width, stopped });
+            of_stopped_marks(&c.stopped).into_iter().map(in_mode).collect()
         }
-        Case::StoppedChart(c) => {
-            // A count that the list holds is still held.
-            let counted = |n: u64| if c.count > c.list.len() as u64 { c.count } else { c.count.min(n) };
-            let with =
-                |list: Vec<u64>, chart| StoppedChart { count: counted(list.len() as u64), list, chart };
-            let fewer = fewer_stops(&c.list).into_iter().map(|list| with(list, c.chart.clone()));
-            let easier =
-                of_chart(&c.chart).into_iter().map(|(dropped, chart)| with(moved(&c.list, dropped), chart));
-            easier.chain(fewer).map(Case::StoppedChart).collect()
+        Case::ModedChart(c) => {
+            let in_mode = |stopped| Case::ModedChart(ModedChart { width: c.width, stopped });
+            of_stopped_chart(&c.stopped).into_iter().map(in_mode).collect()
         }
         Case::Adding(c) => of_adding(c).into_iter().map(Case::Adding).collect(),
         Case::Attributes(c) => of_attributes(c).into_iter().map(Case::Attributes).collect(),
         Case::Flow(bytes) => smaller_flows(bytes),
     }
+}
+
+fn of_stopped_marks(c: &StoppedMarks) -> Vec<StoppedMarks> {
+    let fewer = fewer_stops(&c.stops).into_iter().map(|stops| StoppedMarks { stops, ..c.clone() });
+    let easier = of_marks(&c.marks).into_iter().map(|(dropped, marks)| StoppedMarks {
+        stops: moved(&c.stops, dropped),
+        marks,
+        ..c.clone()
+    });
+    easier.chain(fewer).collect()
+}
+
+fn of_stopped_chart(c: &StoppedChart) -> Vec<StoppedChart> {
+    // A count that the list holds is still held.
+    let counted = |n: u64| if c.count > c.list.len() as u64 { c.count } else { c.count.min(n) };
+    let with = |list: Vec<u64>, chart| StoppedChart { count: counted(list.len() as u64), list, chart };
+    let fewer = fewer_stops(&c.list).into_iter().map(|list| with(list, c.chart.clone()));
+    let easier = of_chart(&c.chart).into_iter().map(|(dropped, chart)| with(moved(&c.list, dropped), chart));
+    easier.chain(fewer).collect()
 }
 
 /// Smaller cases, each with how many values it lacks at the front.

@@ -1,10 +1,11 @@
-//! 01's worked examples through the published Rust, 02's stops and attribute charts, and the reader of lists.
+//! 01's worked examples through the published Rust, 02's stops, width modes and attribute charts, and the reader of lists.
 
 use crate::case::{
-    AddingCase, Answer, Attribute, AttributesCase, Case, ChartCase, Evaluation, Limits, MarksCase, Record,
-    StoppedChart, StoppedMarks,
+    AddingCase, Answer, Attribute, AttributesCase, Case, ChartCase, Evaluation, Limits, MarksCase, ModedChart,
+    ModedMarks, Record, StoppedChart, StoppedMarks,
 };
 use crate::cases::{self, Part};
+use crate::widths::{self, Mode};
 use crate::{attributes, by_01, check, format, judge, report, smaller, stops};
 use u_analytics::spc::rules::RuleSet;
 use u_analytics::spc::variables::{IndividualMRChart, XBarRChart, XBarSChart};
@@ -118,9 +119,10 @@ fn the_rust_marks_as_01_has_it() {
         let c = match case {
             Case::Marks(c) => c,
             Case::StoppedMarks(c) => c.marks,
+            Case::ModedMarks(c) => c.stopped.marks,
             _ => panic!("marks were asked for"),
         };
-        let by_01 = Answer::Marks(by_01::marks(&c, |_| true));
+        let by_01 = Answer::Marks(by_01::marks(&c, &widths::of(&c.limits, Mode::Old), |_| true));
         assert_eq!(check::disagreements(&[(Case::Marks(c), by_01)]), Vec::<String>::new());
     }
 }
@@ -217,7 +219,7 @@ fn the_set_may_be_named_first() {
 
 fn stopped(moving: bool, stops: &[u64], values: &[f64]) -> Answer {
     let marks = MarksCase { set: ALL, limits: LIMITS, values: values.to_vec() };
-    stops::marks(&StoppedMarks { moving, stops: stops.to_vec(), marks })
+    stops::marks(&StoppedMarks { moving, stops: stops.to_vec(), marks }, 0)
 }
 
 /// The positions where the test of bit `bit` stands in spite of the stops.
@@ -271,7 +273,7 @@ fn bad_stops_are_15() {
 }
 
 fn stopped_chart(count: u64, list: &[u64], chart: ChartCase) -> Answer {
-    stops::chart(&StoppedChart { count, list: list.to_vec(), chart })
+    stops::chart(&StoppedChart { count, list: list.to_vec(), chart }, 0)
 }
 
 #[test]
@@ -295,7 +297,7 @@ fn of_a_charts_series_only_the_individuals_dispersion_is_a_moving_range() {
 fn bad_stops_stand_before_too_few_and_not_in_the_figures() {
     let number =
         |count: u64, list: &[u64], values: &[f64]| match stopped_chart(count, list, chart(1, 1, 1, values)) {
-            Answer::BadStops(figures) => (15, figures.map(|f| f.is_ok())),
+            Answer::Apart(number, figures) => (number, figures.map(|f| f.is_ok())),
             Answer::Refused(number) => (number, [false; 2]),
             _ => (0, [true; 2]),
         };
@@ -313,6 +315,8 @@ fn stops_take_marks_away_and_nothing_else() {
         let chart = match &case {
             Case::Chart(c) => c,
             Case::StoppedChart(c) => &c.chart,
+            // marks of their own by mode 1
+            Case::ModedChart(_) => continue,
             _ => panic!("a chart was asked for"),
         };
         let plain = stopped_chart(0, &[0], chart.clone());
@@ -328,6 +332,93 @@ fn stops_take_marks_away_and_nothing_else() {
 
 fn are_among(marks: &[u16], all: &[u16]) -> bool {
     marks.len() == all.len() && marks.iter().zip(all).all(|(m, a)| m & !a == 0)
+}
+
+// ---- width modes -----------------------------------------------------------
+
+fn moded(width: u64, limits: Limits, stops: &[u64], values: &[f64]) -> Answer {
+    let marks = MarksCase { set: ALL, limits, values: values.to_vec() };
+    stops::marks(&StoppedMarks { moving: false, stops: stops.to_vec(), marks }, width)
+}
+
+/// The positions where the test of bit `bit` stands by that mode, under 31, 25, 22: one sigma above is 2, and
+/// below by mode 1 it is 1.
+fn moded_places(bit: u16, width: u64, values: &[f64]) -> Vec<usize> {
+    match moded(width, Limits { ucl: 31.0, cl: 25.0, lcl: 22.0 }, &[], values) {
+        Answer::Marks(marks) => (0..marks.len()).filter(|&i| marks[i] & (1 << bit) != 0).collect(),
+        _ => panic!("the mode was refused"),
+    }
+}
+
+#[test]
+fn below_the_centre_mode_1_has_the_lower_limits_widths() {
+    assert_eq!(moded_places(4, 0, &[22.5, 25.0, 22.5]), []);
+    assert_eq!(moded_places(4, 1, &[22.5, 25.0, 22.5]), [2]);
+    assert_eq!(moded_places(4, 1, &[23.0, 25.0, 23.0]), []);
+    assert_eq!(moded_places(5, 0, &[23.5; 4].repeat(2)), []);
+    assert_eq!(moded_places(5, 1, &[23.5; 5]), [4]);
+    assert_eq!(moded_places(6, 0, &[23.5; 15]), [14]);
+    assert_eq!(moded_places(6, 1, &[23.5; 15]), []);
+    assert_eq!(moded_places(6, 1, &[24.0; 15]), [14]);
+    assert_eq!(moded_places(7, 0, &[23.5; 8]), []);
+    assert_eq!(moded_places(7, 1, &[23.5; 8]), [7]);
+}
+
+#[test]
+fn above_the_centre_both_modes_are_one() {
+    for width in [0, 1] {
+        assert_eq!(moded_places(4, width, &[29.5, 25.0, 29.5]), [2]);
+        assert_eq!(moded_places(4, width, &[29.0, 25.0, 29.0]), []);
+        assert_eq!(moded_places(6, width, &[27.0; 15]), [14]);
+        assert_eq!(moded_places(7, width, &[27.5; 8]), [7]);
+    }
+}
+
+/// 'mode not 0 or 1', after 15.
+#[test]
+fn a_bad_mode_is_21() {
+    let number = |width, stops: &[u64]| match moded(width, LIMITS, stops, &[26.0; 3]) {
+        Answer::Refused(number) => number,
+        _ => 0,
+    };
+    assert_eq!([0, 1, 2, 256, 257, u64::MAX].map(|width| number(width, &[1])), [0, 0, 21, 21, 21, 21]);
+    assert_eq!([0, 1, 2, u64::MAX].map(|width| number(width, &[3])), [15; 4]);
+}
+
+#[test]
+fn a_bad_mode_stands_before_too_few_and_not_in_the_figures() {
+    let number = |list: &[u64], values: &[f64]| {
+        let case = StoppedChart { count: list.len() as u64, list: list.to_vec(), chart: chart(1, 1, 1, values) };
+        match stops::chart(&case, 2) {
+            Answer::Apart(number, figures) => (number, figures.map(|f| f.is_ok())),
+            _ => panic!("the mode was taken"),
+        }
+    };
+    assert_eq!(number(&[], &[25.0]), (21, [false; 2]));
+    assert_eq!(number(&[1], &[25.0; 3]), (21, [true; 2]));
+    assert_eq!(number(&[3], &[25.0; 3]), (15, [true; 2]));
+}
+
+/// Mode 0 is the Rust's; and where ucl - cl and cl - lcl are the same f64, mode 1 is too.
+#[test]
+fn mode_0_and_symmetric_limits_are_the_rusts() {
+    let mut symmetric = 0;
+    for case in cases::list(Part::Marks).into_iter().chain(cases::fresh(Part::Marks, 2000, 12)) {
+        let Case::Marks(c) = case else { continue };
+        assert_eq!(marks_by(&c, 0), judge::marks(&c));
+        if (c.limits.ucl - c.limits.cl).to_bits() == (c.limits.cl - c.limits.lcl).to_bits() {
+            assert_eq!(marks_by(&c, 1), judge::marks(&c));
+            symmetric += 1;
+        }
+    }
+    assert!(symmetric > 500, "{symmetric}");
+}
+
+fn marks_by(c: &MarksCase, width: u64) -> Vec<u16> {
+    match moded(width, c.limits, &[], &c.values) {
+        Answer::Marks(marks) => marks.into_iter().map(|m| m & c.set).collect(),
+        _ => panic!("the mode was refused"),
+    }
 }
 
 // ---- attribute charts ------------------------------------------------------
@@ -527,7 +618,7 @@ fn a_number_out_of_place_is_refused() {
     };
     assert_eq!(changed(0, 2), (0, "format number is 2, not 1 to 1".into()));
     assert_eq!(changed(1, 2), (1, "2 cases are stated, 1 stand there".into()));
-    assert_eq!(changed(2, 10), (2, "tag is 10, not 0 to 9".into()));
+    assert_eq!(changed(2, 12), (2, "tag is 12, not 0 to 11".into()));
     let more = [&whole[..], &[0, 0]].concat();
     assert_eq!(fault_of(&more), (whole.len(), "2 bytes are left over".into()));
     assert_eq!(fault_of(&[1, 1, 2, 4]), (3, "kind is 4, not 1 to 3".into()));
@@ -580,6 +671,12 @@ fn smaller_cases_are_smaller() {
         Case::Chart(c) => (c.count(), 0, c.set.count_ones()),
         Case::StoppedMarks(c) => (c.marks.values.len(), c.stops.len(), c.marks.set.count_ones()),
         Case::StoppedChart(c) => (c.chart.count(), c.list.len(), c.chart.set.count_ones()),
+        Case::ModedMarks(ModedMarks { stopped: c, .. }) => {
+            (c.marks.values.len(), c.stops.len(), c.marks.set.count_ones())
+        }
+        Case::ModedChart(ModedChart { stopped: c, .. }) => {
+            (c.chart.count(), c.list.len(), c.chart.set.count_ones())
+        }
         Case::Adding(c) => (c.samples.len(), 0, 0),
         Case::Attributes(c) => (c.counts.len() + c.sizes.len(), 0, 0),
         Case::Flow(bytes) => (bytes.len(), 0, tests_of(bytes)),

@@ -1,11 +1,19 @@
-//! What the program sheets_run tries, tried on 01's sheet (sheet.rs) with the Rust's marks: the line
-//! that comes of it is the line that our writer and checker have to give.
+//! What the program sheets_run tries, tried on 01's sheet (sheet.rs) with the Rust's marks, in width mode 1
+//! with those of 02's words: the line that comes of it is the line that our writer and checker have to give.
 
 use crate::case::{Limits, MarksCase};
-use crate::judge;
 use crate::sheet::{self, Verdict};
+use crate::widths::{self, Mode};
+use crate::{by_01, judge};
 
-const LIMITS: Limits = Limits { ucl: 28.0, cl: 25.0, lcl: 22.0 };
+/// Sets over 255 are tried in width mode 1, under a lower limit that is nearer than the upper one.
+fn terms(set: u16) -> (Limits, Mode) {
+    if set > 255 {
+        (Limits { ucl: 28.0, cl: 25.0, lcl: 23.5 }, Mode::New)
+    } else {
+        (Limits { ucl: 28.0, cl: 25.0, lcl: 22.0 }, Mode::Old)
+    }
+}
 
 /// How many sheets are tried.
 const SHEETS: u64 = 100;
@@ -65,7 +73,12 @@ fn trial(k: u64, tally: &mut Tally) -> usize {
 }
 
 fn marks(set: u16, values: Vec<f64>) -> Vec<u16> {
-    judge::marks(&MarksCase { set, limits: LIMITS, values })
+    let (limits, mode) = terms(set);
+    let case = MarksCase { set, limits, values };
+    match mode {
+        Mode::Old => judge::marks(&case),
+        Mode::New => by_01::marks(&case, &widths::of(&limits, mode), |_| true),
+    }
 }
 
 /// The values of series k: 0 to 16 of them, each from 21 to 29 by halves.

@@ -99,15 +99,16 @@ fn count(counts: &mut [u64; 12], taken: Taken) -> Lane {
     taken.lane
 }
 
-// Calls that have to be refused, and leave the lane as it is: a value that is not finite, either way, a set that is none, and
-// a limit that is not finite.
+// Calls that have to be refused, and leave the lane as it is: a value that is not finite, either way, a set that is none, a
+// width mode that is none, and a limit that is not finite.
 fn refused(lane: Lane, counts: &mut [u64; 12]) -> Lane {
     let all = RuleSet { mask: RuleSet::ALL };
     let none = RuleSet { mask: 512 };
-    let lane = count(counts, lane.take(0.0 / 0.0, limits(28.0), all));
-    let lane = count(counts, lane.take(1.0 / 0.0, limits(28.0), all));
-    let lane = count(counts, lane.take(29.0, limits(28.0), none));
-    count(counts, lane.take(29.0, limits(1.0 / 0.0), all))
+    let lane = count(counts, lane.take(0.0 / 0.0, limits(28.0), 0, all));
+    let lane = count(counts, lane.take(1.0 / 0.0, limits(28.0), 0, all));
+    let lane = count(counts, lane.take(29.0, limits(28.0), 0, none));
+    let lane = count(counts, lane.take(29.0, limits(28.0), 2, all));
+    count(counts, lane.take(29.0, limits(1.0 / 0.0), 0, all))
 }
 
 // Runs all values through a lane.
@@ -125,7 +126,7 @@ fn run(counts: &mut [u64; 12]) {
         }
         lane = count(
             counts,
-            lane.take(value(i, kind, drawn(x)), limits(28.0), all),
+            lane.take(value(i, kind, drawn(x)), limits(28.0), i % 2, all),
         );
         i += 1;
         if i % BETWEEN == 0 {

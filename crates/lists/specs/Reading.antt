@@ -43,9 +43,9 @@ abbrev pub listedAt : ℕ → Item → Bool → ℕ → ℕ → Found ℕ
 listedAt at item have v next = cond have (read v next) (wrong at item (Unlisted v))
 
 -- "its tag": that of a case, or of such a case "with stops"
-unfoldable pub tagFrom : List ℕ → ℕ → ℕ → ℕ → Found ℕ
-tagFrom list plain stopped at =
-    onward (smallFrom list Tag plain stopped at) (λ v next. listedAt at Tag (eqb v plain || eqb v stopped) v next)
+unfoldable pub tagFrom : List ℕ → ℕ → ℕ → ℕ → ℕ → Found ℕ
+tagFrom list plain stopped moded at =
+    onward (smallFrom list Tag plain moded at) (λ v next. listedAt at Tag (eqb v plain || eqb v stopped || eqb v moded) v next)
 
 -- "01's number": 0, or 7 to high
 unfoldable pub answerFrom : List ℕ → ℕ → ℕ → Found ℕ

@@ -40,6 +40,7 @@ pub enum Item {
     Format,
     Cases,
     Tag,
+    Width,
     Moving,
     Stops,
     Stop,
@@ -222,14 +223,15 @@ fn listed(at: usize, item: Item, number: Narrow, have: bool) -> Small
     })
 }
 
-/// Reads the tag at the place `at`: that of a case, or of such a case with stops.
-pub fn read_tag(list: &[u8], at: usize, plain: u16, stopped: u16) -> Small
-    ensures { λ r. ⌜ ofSmall r ≡ tagFrom (now (list .entry)) plain stopped at ⌝ }
+/// Reads the tag at the place `at`: that of a case, of such a case with stops, or of one in a width mode.
+pub fn read_tag(list: &[u8], at: usize, plain: u16, stopped: u16, moded: u16) -> Small
+    ensures { λ r. ⌜ ofSmall r ≡ tagFrom (now (list .entry)) plain stopped moded at ⌝ }
 {
-    match read_small(list, at, Item::Tag, plain, stopped) {
+    match read_small(list, at, Item::Tag, plain, moded) {
         Small::Read(tag) => {
             let value = tag.value;
-            listed(at, Item::Tag, tag, (value == plain) | (value == stopped))
+            let known = (value == plain) | (value == stopped) | (value == moded);
+            listed(at, Item::Tag, tag, known)
         }
         Small::Fault(fault) => Small::Fault(fault),
     }

@@ -28,6 +28,7 @@ fn put_item(item: Item) {
         Item::Format => put(b"format number"),
         Item::Cases => put(b"number of cases"),
         Item::Tag => put(b"tag"),
+        Item::Width => put(b"width mode"),
         Item::Moving => put(b"moving range or not"),
         Item::Stops => put(b"number of stops"),
         Item::Stop => put(b"stop"),

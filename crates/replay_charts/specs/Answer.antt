@@ -1,5 +1,6 @@
--- What a list has behind '**answer:**' (oracle/FORMAT.md, 'A chart case' and 'A chart case with stops'). Definitions only.
-use mathlib.Core.Bool.{cond}
+-- What a list has behind '**answer:**' (oracle/FORMAT.md, 'A chart case', 'A chart case with stops' and 'A chart case in a width mode').
+-- Definitions only.
+use mathlib.Core.Bool.{Bool, cond, _||_}
 use mathlib.Core.List.{List, [], _∷_, _++_}
 use Prim.Native.Nat.{ℕ}
 use lib.Dec.{eqb}
@@ -31,11 +32,15 @@ countsOf a = (a .found .marks ∷ []) ++ (one (a .«none_stands») ∷ []) ++ fi
 abbrev pub linesOf : Found → List Float
 linesOf f = f .main .ucl ∷ f .main .cl ∷ f .main .lcl ∷ f .dispersion .ucl ∷ f .dispersion .cl ∷ f .dispersion .lcl ∷ []
 
--- "01's number for evaluating"; "After 15 both sigma figures follow"; "After 7 or 8 the case is over"; "After 0 there follow" the limits, "d, the
+-- the numbers by which evaluating alone refuses
+abbrev pub apart : ℕ → Bool
+apart n = eqb n 15 || eqb n 21
+
+-- "01's number for evaluating"; "After 15" and "After 21 both sigma figures follow"; "After 7 or 8 the case is over"; "After 0 there follow" the limits, "d, the
 -- number of points of the dispersion series", and the above
 unfoldable pub answerOf : Answers → List Float → List Float → List ℕ → List ℕ → List ℕ
 answerOf a main dispersion mainMarks dispersionMarks =
-    cond (eqb (a .number) 15) ((a .number ∷ []) ++ figuresOf a)
+    cond (apart (a .number)) ((a .number ∷ []) ++ figuresOf a)
     (cond (eqb (a .number) 0)
     ((a .number ∷ []) ++ allBits (linesOf (a .found)) ++ (length dispersion ∷ []) ++ seriesOf main dispersion mainMarks dispersionMarks ++ countsOf a)
     (a .number ∷ []))

@@ -10,13 +10,13 @@ use Rattle.laws.specs.Bools.{one}
 use Rattle.lists.specs.Ours.{allBits, inGroups, allAre}
 use Rattle.replay_charts.specs.declared.answers.Answers.{Answers}
 use Rattle.replay_charts.specs.declared.Left.{Left}
-use Rattle.replay_charts.specs.Answer.{answerOf}
+use Rattle.replay_charts.specs.Answer.{apart, answerOf}
 
--- "Each of the two sigma figures is then refused by the same number", but for 15; that none stands is said at 8 only
+-- "Each of the two sigma figures is then refused by the same number", but for 15 and 21; that none stands is said at 8 only
 abbrev pub refusedAlike : Answers → Bool
 refusedAlike a =
     cond (eqb (a .number) 0) true
-    ((eqb (a .number) 15 || (eqb (a .«sigma_hat» .number) (a .number) && eqb (a .«sigma_hat_df» .number) (a .number)))
+    ((apart (a .number) || (eqb (a .«sigma_hat» .number) (a .number) && eqb (a .«sigma_hat_df» .number) (a .number)))
     && eqb (one (a .«none_stands»)) (one (eqb (a .number) 8)))
 
 module _ (left : Left) (main dispersion : List Float) (mainMarks dispersionMarks : List ℕ) where

@@ -6,10 +6,20 @@ use lists::Passed;
 use lists::Small;
 ghost use Prim.Native.Nat.{_≤_};
 ghost use Rattle.lists.specs.Ours.{Put};
-ghost use Rattle.replay_charts.specs.Answer.{figureOf, figuresOf, seriesOf, countsOf, answerOf};
+ghost use mathlib.Core.Path.{_≡_};
+ghost use Rattle.replay_charts.specs.Answer.{figureOf, figuresOf, seriesOf, countsOf, apart, answerOf};
 
-/// 01's number for bad stops. The figures take no stops, and their answers follow it.
-pub const BAD_STOPS: u8 = 15;
+// 01's numbers for bad stops and for a bad width mode.
+const BAD_STOPS: u16 = 15;
+
+const BAD_WIDTH: u16 = 21;
+
+/// Whether evaluating alone refuses by this number: the figures take neither stops nor a width mode, and their answers follow it.
+pub fn apart(number: u16) -> bool
+    ensures { λ r. ⌜ r ≡ apart number ⌝ }
+{
+    (number == BAD_STOPS) | (number == BAD_WIDTH)
+}
 
 // A figure: its answer, and the figure where there is one.
 fn put_figure(out: &mut [u8], at: usize, ours: Told) -> usize
@@ -71,7 +81,7 @@ pub fn put_answer(
         (now («dispersion_marks» .entry))) 0 (now (out .entry)) r (now (out .exit)) ⌝ }
 {
     let a = lists::put_number(out, 0, ours.number as u64);
-    if ours.number == BAD_STOPS {
+    if apart(ours.number as u16) {
         return put_figures(out, a, ours);
     }
     if ours.number != 0 {
@@ -110,9 +120,9 @@ fn pass_figures(list: &[u8], so_far: Passed) -> Passed {
 pub fn pass_answer(list: &[u8], at: usize, points: usize) -> Passed
     requires { ⌜ points ≤ 8192 ⌝ }
 {
-    match lists::read_answer(list, at, BAD_STOPS as u16) {
+    match lists::read_answer(list, at, BAD_WIDTH) {
         Small::Read(answer) => {
-            if answer.value == BAD_STOPS as u16 {
+            if apart(answer.value) {
                 return pass_figures(list, Passed::Next(answer.next));
             }
             if answer.value != 0 {

@@ -1,13 +1,12 @@
 // Replays a list of chart cases (oracle/FORMAT.md) from standard input: makes each chart afresh, with its stops where it
-// has any, adds its samples one by one, evaluates it, and holds its answer byte for byte to what is stored, the entries past
-// it to what they were, and where it is refused both figures to the same number, but for bad stops. Writes a line for each
-// case that it finds otherwise, and last how many cases there are and how many of them differ; or, where the bytes are no
-// list, last a line that says at which byte and why.
+// has any, adds its samples one by one, evaluates it in its width mode, and holds its answer byte for byte to what is stored,
+// the entries past it to what they were, and where it is refused both figures to the same number, but for bad stops and a bad
+// mode. Writes a line for each case that it finds otherwise, and last how many cases there are and how many of them differ; or,
+// where the bytes are no list, last a line that says at which byte and why.
 mod answer;
 mod answers;
 mod head;
 
-use answer::BAD_STOPS;
 use answers::Answers;
 use charts::Changed;
 use charts::Chart;
@@ -21,6 +20,7 @@ use lists::Outcome;
 use lists::Passed;
 use lists::Replayed;
 use lists::Small;
+use rules::SAME_WIDTHS;
 use sets::RuleSet;
 ghost use mathlib.Core.Path.{_≡_};
 ghost use Prim.Native.Nat.{_≤_};
@@ -30,10 +30,12 @@ ghost use Rattle.lists.specs.Outcomes.{OnlyIf, stretch};
 ghost use Rattle.replay_charts.specs.Answer.{answerOf};
 ghost use Rattle.replay_charts.specs.Held.{Held, refusedAlike, restIs};
 
-// The tags of a chart case and of one with stops.
+// The tags of a chart case, of one with stops and of one in a width mode.
 const CHART_CASE: u16 = 2;
 
 const STOPPED_CASE: u16 = 5;
+
+const MODED_CASE: u16 = 11;
 
 // The longest list of stops.
 const MOST_STOPS: u16 = 4096;
@@ -214,8 +216,8 @@ fn rest_is(
         & lists::marks_are(dispersion_marks, left.d, left.marks)
 }
 
-// Whether both figures are refused as evaluating is, but for bad stops, which they do not know, and none stands at 8 only;
-// where evaluating is not refused, yes.
+// Whether both figures are refused as evaluating is, but for what they do not take, and none stands at 8 only; where
+// evaluating is not refused, yes.
 fn refused_alike(ours: Answers) -> bool
     ensures { λ r. ⌜ r ≡ refusedAlike ours ⌝ }
 {
@@ -226,7 +228,7 @@ fn refused_alike(ours: Answers) -> bool
     let a = ours.sigma_hat;
     let b = ours.sigma_hat_df;
     let alike = (a.number == number) & (b.number == number);
-    ((number == BAD_STOPS) | alike) & (ours.none_stands as u8 == (number == 8) as u8)
+    (answer::apart(number as u16) | alike) & (ours.none_stands as u8 == (number == 8) as u8)
 }
 
 // Holds our answer to the stored one, which stands in the list from `at` to `next`.
@@ -303,6 +305,7 @@ fn judge(
     at: usize,
     next: usize,
     chart: Chart,
+    width: u64,
     stops: &[usize],
     values: &[f64],
     n: usize,
@@ -319,6 +322,7 @@ fn judge(
         chart,
         values,
         stops,
+        width,
         main,
         dispersion,
         main_marks,
@@ -344,6 +348,7 @@ fn evaluate(
     at: usize,
     next: usize,
     chart: Chart,
+    width: u64,
     stops: &[usize],
     values: &[f64],
     n: usize,
@@ -362,6 +367,7 @@ fn evaluate(
         at,
         next,
         chart,
+        width,
         stops,
         values,
         n,
@@ -379,6 +385,7 @@ fn replay_answer(
     at: usize,
     head: Head,
     made: Made,
+    width: u64,
     stops: &[usize],
     values: &[f64],
 ) -> Replayed
@@ -397,7 +404,7 @@ fn replay_answer(
         };
     }
     let chart = made.chart;
-    let outcome = evaluate(list, at, next, chart, stops, values, n, d);
+    let outcome = evaluate(list, at, next, chart, width, stops, values, n, d);
     Replayed::Case { outcome, next }
 }
 
@@ -406,6 +413,7 @@ fn replay_answer(
 fn replay_chart(
     list: &[u8],
     at: usize,
+    width: u64,
     counted: Counted,
     stops: &[usize],
     values: &mut [f64],
@@ -415,7 +423,7 @@ fn replay_chart(
         Headed::Fault(fault) => return Replayed::Fault(fault),
     };
     match fill_head(list, head, counted, values) {
-        Filled::Chart { made, next } => replay_answer(list, next, head, made, stops, values),
+        Filled::Chart { made, next } => replay_answer(list, next, head, made, width, stops, values),
         Filled::Fault(fault) => Replayed::Fault(fault),
     }
 }
@@ -424,18 +432,19 @@ fn replay_chart(
 fn replay_stops(
     list: &[u8],
     at: usize,
+    width: u64,
     count: usize,
     stops: &mut [usize],
     values: &mut [f64],
 ) -> Replayed {
     match lists::read_positions(list, at, Item::Stop, stops) {
-        Passed::Next(next) => replay_chart(list, next, Counted::Stops(count), stops, values),
+        Passed::Next(next) => replay_chart(list, next, width, Counted::Stops(count), stops, values),
         Passed::Fault(fault) => Replayed::Fault(fault),
     }
 }
 
-// Replays a case with stops, whose tag ends at the place `at`.
-fn replay_stopped(list: &[u8], at: usize, values: &mut [f64]) -> Replayed {
+// Replays a case with stops from its count of them on, which stands at the place `at`.
+fn replay_stopped(list: &[u8], at: usize, width: u64, values: &mut [f64]) -> Replayed {
     let count = match lists::read_number(list, at, Item::Stops) {
         Number::Read(count) => count,
         Number::Fault(fault) => return Replayed::Fault(fault),
@@ -449,22 +458,41 @@ fn replay_stopped(list: &[u8], at: usize, values: &mut [f64]) -> Replayed {
     replay_stops(
         list,
         length.next,
+        width,
         count.value as usize,
         &mut stops[0..m],
         values,
     )
 }
 
+// Replays a case in a width mode, whose tag ends at the place `at`.
+fn replay_moded(list: &[u8], at: usize, values: &mut [f64]) -> Replayed {
+    match lists::read_number(list, at, Item::Width) {
+        Number::Read(width) => replay_stopped(list, width.next, width.value, values),
+        Number::Fault(fault) => Replayed::Fault(fault),
+    }
+}
+
 // Replays the case that begins at the place `at`.
 fn replay_case(list: &[u8], at: usize, values: &mut [f64]) -> Replayed {
-    let tag = match lists::read_tag(list, at, CHART_CASE, STOPPED_CASE) {
+    let tag = match lists::read_tag(list, at, CHART_CASE, STOPPED_CASE, MODED_CASE) {
         Small::Read(tag) => tag,
         Small::Fault(fault) => return Replayed::Fault(fault),
     };
-    if tag.value == STOPPED_CASE {
-        return replay_stopped(list, tag.next, values);
+    if tag.value == MODED_CASE {
+        return replay_moded(list, tag.next, values);
     }
-    replay_chart(list, tag.next, Counted::Unsaid, &[], values)
+    if tag.value == STOPPED_CASE {
+        return replay_stopped(list, tag.next, SAME_WIDTHS, values);
+    }
+    replay_chart(
+        list,
+        tag.next,
+        SAME_WIDTHS,
+        Counted::Unsaid,
+        &[],
+        values,
+    )
 }
 
 // Replays every case of a list. There is room for the values of one of them.

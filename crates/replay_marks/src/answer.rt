@@ -45,7 +45,7 @@ pub fn pass(list: &[u8], at: usize, stopped: bool, n: usize) -> Passed {
     if !stopped {
         return lists::pass_numbers(list, at, Item::Answer, n);
     }
-    match lists::read_answer(list, at, 15) {
+    match lists::read_answer(list, at, 21) {
         Small::Read(answer) => {
             if answer.value != 0 {
                 return Passed::Next(answer.next);

@@ -21,6 +21,7 @@ pub fn mark(
     stops: &[usize],
     moving: bool,
     limits: Limits,
+    width: u64,
     set: RuleSet,
     marks: &mut [u16],
 ) -> u8
@@ -32,7 +33,7 @@ pub fn mark(
     let mut lane = Lane::start();
     let mut i = 0;
     while i < values.len() {
-        let taken = before(lane, stops, moving, i).take(values[i], limits, set);
+        let taken = before(lane, stops, moving, i).take(values[i], limits, width, set);
         let answer = taken.answer;
         match answer {
             Answer::Marks(m) => marks[i] = m,

@@ -1,5 +1,5 @@
 // Replays a list of marks cases (oracle/FORMAT.md) from standard input: marks the values of each case afresh, with its
-// stops where it has any, all at once and then one by one, and holds either answer byte for byte and the entries past the
+// stops and in its width mode where it has any, all at once and then one by one, and holds either answer byte for byte and the entries past the
 // marks to what is stored. Writes a line for each case that it finds otherwise, and last how many cases there are and how
 // many of them differ; or, where the bytes are no list, last a line that says at which byte and why.
 mod answer;
@@ -7,11 +7,13 @@ mod lanes;
 
 use libc::STDIN_FILENO;
 use lists::Item;
+use lists::Number;
 use lists::Outcome;
 use lists::Passed;
 use lists::Replayed;
 use lists::Small;
 use rules::Limits;
+use rules::SAME_WIDTHS;
 use sets::RuleSet;
 ghost use mathlib.Core.Path.{_≡_};
 ghost use Prim.Native.Nat.{_+_, _≤_};
@@ -21,10 +23,12 @@ ghost use Rattle.rules.specs.Terms.{under};
 ghost use Rattle.rules.specs.Marking.{answerOf};
 ghost use Rattle.replay_marks.specs.Held.{Held, SomeHeld, written};
 
-// The tags of a marks case and of one with stops.
+// The tags of a marks case, of one with stops and of one in a width mode.
 const MARKS_CASE: u16 = 1;
 
 const STOPPED_CASE: u16 = 4;
+
+const MODED_CASE: u16 = 10;
 
 // The most values that a case has, and the most stops.
 const MOST: u16 = 4096;
@@ -35,11 +39,13 @@ const SPARE: usize = 4;
 // What a slice for marks holds before they are made. No marks are this, and past the last of them it has to stay.
 const UNTOUCHED: u16 = 0xffff;
 
-// How the series of a case is marked: `stopped`, with stops, and as a moving range or not; without stops it is none.
+// How the series of a case is marked: `stopped`, with stops, and as a moving range or not; without stops it is none. `width` is
+// the width mode.
 struct Terms {
     stopped: bool,
     moving: bool,
     limits: Limits,
+    width: u64,
     set: RuleSet,
 }
 
@@ -89,12 +95,12 @@ fn judge(
 ) -> Outcome
     requires { ⌜ length (now marks) ≡ length (now values) + 4 ⌝ }
     ensures { λ r. ⌜ OnlyIf (Held (stretch at next (now (list .entry))) (terms .stopped)
-        (answerOf (under (terms .limits) (now (stops .entry)) (terms .moving)) (terms .set .mask) (now (values .entry)) (length (now (marks .entry))))
+        (answerOf (under (terms .limits) (terms .width) (now (stops .entry)) (terms .moving)) (terms .set .mask) (now (values .entry)) (length (now (marks .entry))))
         (length (now (values .entry))) (now (marks .exit))) r ⌝ }
 {
     let limits = terms.limits;
     let set = terms.set;
-    let number = rules::mark(values, stops, terms.moving, limits, set, marks).number();
+    let number = rules::mark(values, stops, terms.moving, limits, terms.width, set, marks).number();
     hold(list, at, next, terms.stopped, number, values.len(), marks)
 }
 
@@ -113,7 +119,7 @@ fn judge_lane(
 {
     let limits = terms.limits;
     let set = terms.set;
-    let number = lanes::mark(values, stops, terms.moving, limits, set, marks);
+    let number = lanes::mark(values, stops, terms.moving, limits, terms.width, set, marks);
     hold(list, at, next, terms.stopped, number, values.len(), marks)
 }
 
@@ -169,7 +175,14 @@ fn replay_count(list: &[u8], at: usize, terms: Terms, stops: &[usize]) -> Replay
 }
 
 // Replays a case from its set on, which stands at the place `at`.
-fn replay_set(list: &[u8], at: usize, stopped: bool, moving: bool, stops: &[usize]) -> Replayed {
+fn replay_set(
+    list: &[u8],
+    at: usize,
+    width: u64,
+    stopped: bool,
+    moving: bool,
+    stops: &[usize],
+) -> Replayed {
     let set = match lists::read_small(list, at, Item::Set, 0, lists::ALL_TESTS) {
         Small::Read(set) => set,
         Small::Fault(fault) => return Replayed::Fault(fault),
@@ -187,21 +200,28 @@ fn replay_set(list: &[u8], at: usize, stopped: bool, moving: bool, stops: &[usiz
             cl: lines[1],
             lcl: lines[2],
         },
+        width,
         set: RuleSet { mask: set.value },
     };
     replay_count(list, next, terms, stops)
 }
 
 // Replays a case from its stops on, which stand at the place `at`. There is room for them.
-fn replay_stops(list: &[u8], at: usize, moving: bool, stops: &mut [usize]) -> Replayed {
+fn replay_stops(
+    list: &[u8],
+    at: usize,
+    width: u64,
+    moving: bool,
+    stops: &mut [usize],
+) -> Replayed {
     match lists::read_positions(list, at, Item::Stop, stops) {
-        Passed::Next(next) => replay_set(list, next, true, moving, stops),
+        Passed::Next(next) => replay_set(list, next, width, true, moving, stops),
         Passed::Fault(fault) => Replayed::Fault(fault),
     }
 }
 
-// Replays a case with stops, whose tag ends at the place `at`.
-fn replay_stopped(list: &[u8], at: usize) -> Replayed {
+// Replays a case with stops from whether it has moving ranges on, which stands at the place `at`.
+fn replay_stopped(list: &[u8], at: usize, width: u64) -> Replayed {
     let moving = match lists::read_small(list, at, Item::Moving, 0, 1) {
         Small::Read(moving) => moving,
         Small::Fault(fault) => return Replayed::Fault(fault),
@@ -212,19 +232,36 @@ fn replay_stopped(list: &[u8], at: usize) -> Replayed {
     };
     let k = count.value as usize;
     let mut stops = [0usize; 4096];
-    replay_stops(list, count.next, moving.value == 1, &mut stops[0..k])
+    replay_stops(
+        list,
+        count.next,
+        width,
+        moving.value == 1,
+        &mut stops[0..k],
+    )
+}
+
+// Replays a case in a width mode, whose tag ends at the place `at`.
+fn replay_moded(list: &[u8], at: usize) -> Replayed {
+    match lists::read_number(list, at, Item::Width) {
+        Number::Read(width) => replay_stopped(list, width.next, width.value),
+        Number::Fault(fault) => Replayed::Fault(fault),
+    }
 }
 
 // Replays the case that begins at the place `at`.
 fn replay_case(list: &[u8], at: usize) -> Replayed {
-    let tag = match lists::read_tag(list, at, MARKS_CASE, STOPPED_CASE) {
+    let tag = match lists::read_tag(list, at, MARKS_CASE, STOPPED_CASE, MODED_CASE) {
         Small::Read(tag) => tag,
         Small::Fault(fault) => return Replayed::Fault(fault),
     };
-    if tag.value == STOPPED_CASE {
-        return replay_stopped(list, tag.next);
+    if tag.value == MODED_CASE {
+        return replay_moded(list, tag.next);
     }
-    replay_set(list, tag.next, false, false, &[])
+    if tag.value == STOPPED_CASE {
+        return replay_stopped(list, tag.next, SAME_WIDTHS);
+    }
+    replay_set(list, tag.next, SAME_WIDTHS, false, false, &[])
 }
 
 // Replays every case of a list.

@@ -4,6 +4,8 @@
 use libc::STDOUT_FILENO;
 use rules::Limits;
 use rules::MOST;
+use rules::OWN_WIDTHS;
+use rules::SAME_WIDTHS;
 use sets::RuleSet;
 use sheets::Checked;
 use sheets::LONGEST;
@@ -11,11 +13,25 @@ use sheets::Written;
 ghost use Prim.Native.Nat.{_≤_, _<_};
 ghost use lib.ListN.{length};
 
-fn limits() -> Limits {
+// A set with eight on one side, which no set of 01's rows has, is tried in width mode 1, under a lower limit that is nearer than
+// the upper one.
+fn width(set: RuleSet) -> u64 {
+    if 255 < set.mask {
+        return OWN_WIDTHS;
+    }
+    SAME_WIDTHS
+}
+
+fn limits(set: RuleSet) -> Limits {
+    let lcl = if width(set) == OWN_WIDTHS {
+        23.5
+    } else {
+        22.0
+    };
     Limits {
         ucl: 28.0,
         cl: 25.0,
-        lcl: 22.0,
+        lcl,
     }
 }
 
@@ -49,19 +65,19 @@ fn count(counts: &mut [u64; 12], answer: Checked) {
 }
 
 // The checker and the writer, with no stops.
-fn checked(values: &[f64], limits: Limits, set: RuleSet, sheet: &[u8]) -> Checked {
-    sheets::check(values, &[], false, limits, set, sheet)
+fn checked(values: &[f64], set: RuleSet, sheet: &[u8]) -> Checked {
+    sheets::check(values, &[], false, limits(set), width(set), set, sheet)
 }
 
-fn write(values: &[f64], limits: Limits, set: RuleSet, room: &mut [u8]) -> Written {
-    sheets::write(values, &[], false, limits, set, room)
+fn write(values: &[f64], set: RuleSet, room: &mut [u8]) -> Written {
+    sheets::write(values, &[], false, limits(set), width(set), set, room)
 }
 
 // The length of the sheet that is written into the room, or 0 where it is refused.
 fn sheet_of(values: &[f64], set: RuleSet, room: &mut [u8]) -> usize
     ensures { λ r. ⌜ r ≤ length (now (room .exit)) ⌝ }
 {
-    if let Written::Sheet(n) = write(values, limits(), set, room) {
+    if let Written::Sheet(n) = write(values, set, room) {
         if n <= room.len() {
             return n;
         }
@@ -73,7 +89,7 @@ fn sheet_of(values: &[f64], set: RuleSet, room: &mut [u8]) -> usize
 fn cut(values: &[f64], set: RuleSet, sheet: &[u8], counts: &mut [u64; 12]) {
     let mut n: usize = 0;
     while n < sheet.len() {
-        count(counts, checked(values, limits(), set, &sheet[0..n]));
+        count(counts, checked(values, set, &sheet[0..n]));
         n += 1;
     }
 }
@@ -86,7 +102,7 @@ fn change_at(values: &[f64], set: RuleSet, sheet: &mut [u8], at: usize, counts: 
     let mut by: u8 = 255;
     while 0 < by {
         sheet[at] = was ^ by;
-        count(counts, checked(values, limits(), set, sheet));
+        count(counts, checked(values, set, sheet));
         by -= 1;
     }
     sheet[at] = was;
@@ -109,17 +125,17 @@ fn extend(values: &[f64], set: RuleSet, room: &mut [u8], counts: &mut [u64; 12])
     let mut more: u8 = 255;
     while 0 < more {
         room[last] = more;
-        count(counts, checked(values, limits(), set, room));
+        count(counts, checked(values, set, room));
         more -= 1;
     }
     room[last] = 0;
-    count(counts, checked(values, limits(), set, room));
+    count(counts, checked(values, set, room));
 }
 
 // Writes a sheet into the room, and checks it as it is, changed, cut and extended. Gives its length.
 fn trial(values: &[f64], set: RuleSet, room: &mut [u8], counts: &mut [u64; 12]) -> usize {
     let n = sheet_of(values, set, room);
-    count(counts, checked(values, limits(), set, &room[0..n]));
+    count(counts, checked(values, set, &room[0..n]));
     cut(values, set, &room[0..n], counts);
     change(values, set, &mut room[0..n], counts);
     if n < room.len() {
@@ -136,7 +152,7 @@ fn short_refused(values: &[f64], set: RuleSet, room: &mut [u8]) -> bool {
         return false;
     }
     let shorter = n - 1;
-    let w = write(values, limits(), set, &mut room[0..shorter]);
+    let w = write(values, set, &mut room[0..shorter]);
     w.number() == 6
 }
 
@@ -212,7 +228,7 @@ fn longest() -> u64 {
         return 0;
     }
     let n = sheet_of(&values, set, &mut room);
-    let answer = checked(&values, limits(), set, &room[0..n]);
+    let answer = checked(&values, set, &room[0..n]);
     if answer.number() != 0 {
         return 0;
     }

@@ -1,7 +1,7 @@
 //! Samples for the three charts.
 
 use super::any_set;
-use super::flows::{flow, SHAPES};
+use super::flows::{flow, Shape, SHAPES};
 use super::limits::{DECIMAL, EXACT};
 use crate::case::ChartCase;
 use crate::random::Random;
@@ -220,6 +220,26 @@ fn every_size(random: &mut Random) -> Vec<ChartCase> {
         }
     }
     cases
+}
+
+/// Level means, and now and then a sample far wider than the others.
+pub fn wide(random: &mut Random, kind: u8, count: usize) -> ChartCase {
+    let size = smallest(kind);
+    chart(kind, size, ALL_TESTS, samples(random, Data::WideSamples, size, count))
+}
+
+/// A flow of a shape, in the smallest samples of its kind.
+pub fn shaped(random: &mut Random, kind: u8, shape: Shape, count: usize) -> ChartCase {
+    let size = smallest(kind);
+    chart(kind, size, ALL_TESTS, flow(random, shape, &EXACT, size * count))
+}
+
+fn smallest(kind: u8) -> usize {
+    if kind == 1 {
+        1
+    } else {
+        2
+    }
 }
 
 /// One chart of any kind; most are short.

@@ -86,6 +86,34 @@ pub fn every_window(l: &Limits) -> Vec<Vec<f64>> {
     ]
 }
 
+/// Flows that hold every three values about two sigma below, and every five about one.
+pub fn lower_windows(l: &Limits) -> Vec<Vec<f64>> {
+    let s = one_sigma(l);
+    let (below1, below2) = (l.cl - s, l.cl - 2.0 * s);
+    vec![
+        spelled(3, &[below2, below2.next_up(), below2.next_down()]),
+        spelled(5, &[below1, below1.next_down(), below1.next_up()]),
+    ]
+}
+
+/// Each window of a test that looks at the zones, shown below, with each of its places in turn on the lower
+/// line and one bit to either side.
+pub fn lower_flaws(l: &Limits) -> Vec<Vec<f64>> {
+    let s = one_sigma(l);
+    let mut found = Vec::new();
+    for (test, line) in [(4, l.cl - 2.0 * s), (5, l.cl - s), (6, l.cl - s), (7, l.cl - s)] {
+        let values = shown(test, l, -1.0, WINDOWS[test]);
+        for at in 0..values.len() {
+            for edge in about(line) {
+                let mut flawed = values.clone();
+                flawed[at] = edge;
+                found.push(flawed);
+            }
+        }
+    }
+    found
+}
+
 fn spelled(window: usize, alphabet: &[f64]) -> Vec<f64> {
     let letters = every_word(alphabet.len(), window);
     letters.into_iter().map(|letter| alphabet[letter]).collect()

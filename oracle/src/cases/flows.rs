@@ -3,6 +3,7 @@
 use super::limits::{edge_values, lines, scale};
 use crate::case::Limits;
 use crate::random::Random;
+use crate::widths::Mode;
 
 #[derive(Clone, Copy, Debug)]
 pub enum Shape {
@@ -106,7 +107,7 @@ fn on_lines(random: &mut Random, l: &Limits, n: usize) -> Vec<f64> {
 fn runs(random: &mut Random, l: &Limits, n: usize) -> Vec<f64> {
     let mut values = Vec::new();
     while values.len() < n {
-        let line = random.pick(&lines(l));
+        let line = random.pick(&lines(l, Mode::Old));
         let side = random.pick(&[-1.0, 1.0]);
         for _ in 0..random.between(2, 17) {
             values.push(line + side * random.unit() * 0.7 * scale(l));
@@ -137,7 +138,7 @@ fn trends(random: &mut Random, l: &Limits, n: usize) -> Vec<f64> {
 
 /// A walk by single bits from a line.
 fn one_bit_steps(random: &mut Random, l: &Limits, n: usize) -> Vec<f64> {
-    let mut at = random.pick(&lines(l));
+    let mut at = random.pick(&lines(l, Mode::Old));
     let mut values = Vec::new();
     for _ in 0..n {
         at = match random.below(5) {

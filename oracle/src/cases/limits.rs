@@ -1,6 +1,7 @@
 //! Limits worth trying, and the lines that they draw.
 
 use crate::case::Limits;
+use crate::widths::{self, Mode};
 
 const SMALLEST: f64 = f64::from_bits(1);
 
@@ -63,10 +64,10 @@ pub fn scale(l: &Limits) -> f64 {
 }
 
 /// Centre, one sigma above and below, two sigma above and below, limits: as far as they are finite.
-pub fn lines(l: &Limits) -> Vec<f64> {
-    let s = one_sigma(l);
-    let t = 2.0 * s;
-    let all = [l.cl, l.cl + s, l.cl - s, l.cl + t, l.cl - t, l.ucl, l.lcl];
+pub fn lines(l: &Limits, mode: Mode) -> Vec<f64> {
+    let w = widths::of(l, mode);
+    let all =
+        [l.cl, l.cl + w.above1, l.cl - w.below1, l.cl + w.above2, l.cl - w.below2, l.ucl, l.lcl];
     all.into_iter().filter(|x| x.is_finite()).collect()
 }
 
@@ -78,7 +79,7 @@ pub fn about(line: f64) -> Vec<f64> {
 
 /// Every line with one bit to either side, and both zeros.
 pub fn edge_values(l: &Limits) -> Vec<f64> {
-    let mut all: Vec<f64> = lines(l).into_iter().flat_map(about).collect();
+    let mut all: Vec<f64> = lines(l, Mode::Old).into_iter().flat_map(about).collect();
     all.extend([0.0, -0.0]);
     all
 }

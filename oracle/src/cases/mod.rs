@@ -8,6 +8,7 @@ mod limits;
 mod marks;
 mod reports;
 mod stops;
+mod widths;
 
 use crate::case::Case;
 use crate::random::Random;
@@ -42,27 +43,31 @@ pub fn list(part: Part) -> Vec<Case> {
     match part {
         Part::Marks => {
             let plain: Vec<Case> = marks::list(&mut random).into_iter().map(Case::Marks).collect();
-            let stopped = stops::marks_list(&mut random).into_iter().map(Case::StoppedMarks);
-            plain.into_iter().chain(stopped).collect()
+            let stopped: Vec<Case> = stops::marks_list(&mut random).into_iter().map(Case::StoppedMarks).collect();
+            let moded = widths::marks_list(&mut random).into_iter().map(Case::ModedMarks);
+            plain.into_iter().chain(stopped).chain(moded).collect()
         }
         Part::Charts => {
             let plain: Vec<Case> = charts::list(&mut random).into_iter().map(Case::Chart).collect();
-            let stopped = stops::charts_list(&mut random).into_iter().map(Case::StoppedChart);
-            plain.into_iter().chain(stopped).collect()
+            let stopped: Vec<Case> = stops::charts_list(&mut random).into_iter().map(Case::StoppedChart).collect();
+            let moded = widths::charts_list(&mut random).into_iter().map(Case::ModedChart);
+            plain.into_iter().chain(stopped).chain(moded).collect()
         }
         Part::Attributes => attributes::list(&mut random),
         Part::Reports => reports::list(&mut random).into_iter().map(Case::Flow).collect(),
     }
 }
 
-/// `count` cases that follow from `seed` alone; of marks and charts every other one has stops.
+/// `count` cases that follow from `seed` alone; of marks and charts two in three have stops, and half of these a width mode.
 pub fn fresh(part: Part, count: usize, seed: u64) -> Vec<Case> {
     let mut random = Random::new(seed);
-    let mut one = |k: usize| match (part, k % 2) {
+    let mut one = |k: usize| match (part, k % 3) {
         (Part::Marks, 0) => Case::Marks(marks::any(&mut random)),
-        (Part::Marks, _) => Case::StoppedMarks(stops::any_marks(&mut random)),
+        (Part::Marks, 1) => Case::StoppedMarks(stops::any_marks(&mut random)),
+        (Part::Marks, _) => Case::ModedMarks(widths::any_marks(&mut random)),
         (Part::Charts, 0) => Case::Chart(charts::any(&mut random)),
-        (Part::Charts, _) => Case::StoppedChart(stops::any_chart(&mut random)),
+        (Part::Charts, 1) => Case::StoppedChart(stops::any_chart(&mut random)),
+        (Part::Charts, _) => Case::ModedChart(widths::any_chart(&mut random)),
         (Part::Attributes, _) => attributes::any(&mut random),
         (Part::Reports, _) => Case::Flow(reports::any(&mut random)),
     };

@@ -113,9 +113,8 @@ pub fn charts_list(random: &mut Random) -> Vec<StoppedChart> {
             cases.extend(good_and_bad(n as u64).into_iter().map(|stops| stopped(stops, &chart)));
             cases.extend(by_count(&chart));
         }
-        // Past the largest (7), beside good stops and beside bad ones.
-        let past = chart(kind, vec![f64::MAX; 4]);
-        cases.extend([vec![1], vec![4]].map(|stops| stopped(stops, &past)));
+        // Beside good stops and beside bad ones.
+        cases.extend([vec![1], vec![4]].map(|stops| stopped(stops, &past(kind))));
     }
     for shape in SHAPES {
         for kind in [1, 2] {
@@ -151,7 +150,7 @@ fn level(kind: u8, count: usize) -> ChartCase {
 }
 
 /// A dispersion series that rises throughout: first below its centre, then above, and at last beyond its limit.
-fn widening(kind: u8, count: usize) -> ChartCase {
+pub fn widening(kind: u8, count: usize) -> ChartCase {
     let steps = |i: usize| -> Vec<f64> {
         match kind {
             1 => vec![(i * (i + 1) / 2) as f64],
@@ -159,6 +158,11 @@ fn widening(kind: u8, count: usize) -> ChartCase {
         }
     };
     chart(kind, (0..count).flat_map(steps).map(|v| v * unit(kind)).collect())
+}
+
+/// Past the largest (7).
+pub fn past(kind: u8) -> ChartCase {
+    chart(kind, vec![f64::MAX; 4])
 }
 
 /// A record that counts more stops than the list holds (15), and entries past its count, which nothing looks at.

@@ -19,7 +19,7 @@ hold-requires : tie.Need-hold-requires
 hold-requires c κs =
     let p = c .before .before .before .before .before .before .before .before .before .before .before .before .before .before .before .before .before .before .before .before .before .before .before .before .before .pre in
     let l = c .before .before .before .before .left-by .ensures in
-    let k = c .before .before .before .before .before .before .before .before .before .before .before .before .before .answers-of .kept .1 .1 in (
+    let k = c .before .before .before .before .before .before .before .before .before .before .before .before .before .answers-of .kept .1 .1 .1 in (
       (still (l .0) (p .0 .0) (k .1 .0), still (l .1) (p .0 .1) (k .1 .1 .0)),
       (still (l .0) (p .1 .0) (k .1 .1 .1 .0), still (l .1) (p .1 .1) (k .1 .1 .1 .1 .0)),
     )

@@ -1,4 +1,5 @@
 -- `refused_alike` meets its contract. Assumes nothing.
+use mathlib.Core.Path.{refl}
 use borrow.Author.Tests.{eq-eqb, ne-eqb}
 use borrow.Author.Needs.{needs}
 use Rattle.replay_charts.proofs.refused_alike.Statement.{statement}
@@ -14,7 +15,8 @@ cast-result-2 : tie.Need-cast-result-2
 cast-result-2 c = search needs
 
 returns-2 : tie.Need-returns-2
-returns-2 c = rw (ne-eqb _ _ (c .before .before .before .before .before .if1 .left))
+returns-2 c = rw (ne-eqb _ _ (c .before .before .before .before .before .before .if1 .left), ← c .before .apart .ensures) refl
 
 pub refused-alike-spec : {M : Type 1} → statement M
-refused-alike-spec = tie.close (tie.spec returns cast-result cast-result-2 returns-2)
+refused-alike-spec =
+    tie.close (tie.spec returns (λ c. search needs) (λ c κs. search needs) cast-result cast-result-2 returns-2)

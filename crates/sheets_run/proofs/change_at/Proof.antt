@@ -21,9 +21,6 @@ loop-holds c = search needs
 slice-write-sheet : tie.Need-slice-write-sheet Inv-loop μ-loop
 slice-write-sheet c = search needs
 
-limits-requires : tie.Need-limits-requires Inv-loop μ-loop
-limits-requires c κs = search needs
-
 checked-requires : tie.Need-checked-requires Inv-loop μ-loop
 checked-requires c κs = search needs
 
@@ -57,7 +54,6 @@ change-at-spec =
     slice-read-was
     loop-holds
     slice-write-sheet
-    limits-requires
     checked-requires
     count-requires
     sub-by

@@ -14,9 +14,6 @@ abbrev μ-loop : tie.MeasureT-loop
 loop-holds : tie.Need-loop-holds Inv-loop μ-loop
 loop-holds c = search needs
 
-limits-requires : tie.Need-limits-requires Inv-loop μ-loop
-limits-requires c κs = search needs
-
 sub-checked : tie.Need-sub-checked Inv-loop μ-loop
 sub-checked c = search needs
 
@@ -51,7 +48,6 @@ cut-spec =
     Inv-loop
     μ-loop
     loop-holds
-    limits-requires
     sub-checked
     part-checked-start
     part-checked-end

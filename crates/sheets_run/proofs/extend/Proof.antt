@@ -21,9 +21,6 @@ loop-holds c = search needs
 slice-write-room : tie.Need-slice-write-room Inv-loop μ-loop
 slice-write-room c = search needs
 
-limits-requires : tie.Need-limits-requires Inv-loop μ-loop
-limits-requires c κs = search needs
-
 checked-requires : tie.Need-checked-requires Inv-loop μ-loop
 checked-requires c κs = search needs
 
@@ -41,9 +38,6 @@ loop-again c = search needs
 
 slice-write-room-2 : tie.Need-slice-write-room-2 Inv-loop μ-loop
 slice-write-room-2 c = search needs
-
-limits-requires-2 : tie.Need-limits-requires-2 Inv-loop μ-loop
-limits-requires-2 c κs = search needs
 
 checked-requires-2 : tie.Need-checked-requires-2 Inv-loop μ-loop
 checked-requires-2 c κs = search needs
@@ -66,14 +60,12 @@ extend-spec =
     sub-last
     loop-holds
     slice-write-room
-    limits-requires
     checked-requires
     count-requires
     sub-more
     loop-less
     loop-again
     slice-write-room-2
-    limits-requires-2
     checked-requires-2
     count-requires-2
     same-length

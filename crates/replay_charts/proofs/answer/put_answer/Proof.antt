@@ -1,4 +1,5 @@
 -- `answer::put_answer` meets its contract. Assumes nothing.
+use mathlib.Core.Path.{sym, _∙_}
 use borrow.Author.Tests.{eq-eqb, ne-eqb}
 use Rattle.lists.proofs.Putting.{put-then}
 use Rattle.replay_charts.specs.Answer.{answerOf}
@@ -20,14 +21,14 @@ same-length c = search needs
 
 returns : tie.Need-returns
 unfolding answerOf
-returns c = rw (eq-eqb _ _ (c .before .before .before .before .if1 .taken)) (put-then (c .before .before .before .before .before .before .before .before .put-number .ensures) (c .before .before .put-figures .ensures))
+returns c = rw (sym (c .before .before .before .before .before .apart .ensures) ∙ c .before .before .before .before .if1 .taken) (put-then (c .before .before .before .before .before .before .before .before .before .put-number .ensures) (c .before .before .put-figures .ensures))
 
 same-length-2 : tie.Need-same-length-2
 same-length-2 c = search needs
 
 returns-2 : tie.Need-returns-2
 unfolding answerOf
-returns-2 c = rw (ne-eqb _ _ (c .before .before .if1 .left), ne-eqb _ _ (c .if2 .taken)) (c .before .before .before .before .before .before .put-number .ensures)
+returns-2 c = rw (sym (c .before .before .before .apart .ensures) ∙ c .before .before .if1 .left, ne-eqb _ _ (c .if2 .taken)) (c .before .before .before .before .before .before .before .put-number .ensures)
 
 slice-aggregate-put-floats : tie.Need-slice-aggregate-put-floats
 slice-aggregate-put-floats c = search needs
@@ -50,8 +51,8 @@ same-length-3 c = search needs
 returns-3 : tie.Need-returns-3
 unfolding answerOf
 returns-3 c =
-    rw (ne-eqb _ _ (c .before .before .before .before .before .before .before .before .before .before .before .before .before .before .before .before .before .before .before .before .before .before .if1 .left), eq-eqb _ _ (c .before .before .before .before .before .before .before .before .before .before .before .before .before .before .before .before .before .before .before .before .if2 .left))
-    (put-then (put-then (put-then (put-then (c .before .before .before .before .before .before .before .before .before .before .before .before .before .before .before .before .before .before .before .before .before .before .before .before .before .before .put-number .ensures) (c .before .before .before .before .before .before .before .before .before .before .before .before .before .before .put-floats .ensures)) (c .before .before .before .before .before .before .before .before .before .before .put-number2 .ensures)) (c .before .before .before .before .before .before .put-series .ensures)) (c .before .before .put-counts .ensures))
+    rw (sym (c .before .before .before .before .before .before .before .before .before .before .before .before .before .before .before .before .before .before .before .before .before .before .before .apart .ensures) ∙ c .before .before .before .before .before .before .before .before .before .before .before .before .before .before .before .before .before .before .before .before .before .before .if1 .left, eq-eqb _ _ (c .before .before .before .before .before .before .before .before .before .before .before .before .before .before .before .before .before .before .before .before .if2 .left))
+    (put-then (put-then (put-then (put-then (c .before .before .before .before .before .before .before .before .before .before .before .before .before .before .before .before .before .before .before .before .before .before .before .before .before .before .before .put-number .ensures) (c .before .before .before .before .before .before .before .before .before .before .before .before .before .before .put-floats .ensures)) (c .before .before .before .before .before .before .before .before .before .before .put-number2 .ensures)) (c .before .before .before .before .before .before .put-series .ensures)) (c .before .before .put-counts .ensures))
 
 pub put-answer-spec : {M : Type 1} → statement M
 put-answer-spec =
@@ -59,6 +60,8 @@ put-answer-spec =
     (tie.spec
     cast-put-number
     put-number-requires
+    (λ c. search needs)
+    (λ c κs. search needs)
     put-figures-requires
     same-length
     returns

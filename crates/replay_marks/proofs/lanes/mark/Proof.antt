@@ -8,10 +8,10 @@ use Rattle.replay_marks.proofs.lanes.mark.Statement.{statement}
 use Rattle.replay_marks.proofs.lanes.mark.Tie as tie
 
 abbrev Inv-loop : tie.InvT-loop
-Inv-loop values stops moving limits set marks₀ lane₀ i₀ marks lane i = (i ≤ length values) × (length marks ≡ length marks₀)
+Inv-loop values stops moving limits width set marks₀ lane₀ i₀ marks lane i = (i ≤ length values) × (length marks ≡ length marks₀)
 
 abbrev μ-loop : tie.MeasureT-loop
-μ-loop values stops moving limits set marks₀ lane₀ i₀ marks lane i = length values - i
+μ-loop values stops moving limits width set marks₀ lane₀ i₀ marks lane i = length values - i
 
 mul-marks : tie.Need-mul-marks Inv-loop μ-loop
 mul-marks c =
