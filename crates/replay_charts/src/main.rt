@@ -485,14 +485,7 @@ fn replay_case(list: &[u8], at: usize, values: &mut [f64]) -> Replayed {
     if tag.value == STOPPED_CASE {
         return replay_stopped(list, tag.next, SAME_WIDTHS, values);
     }
-    replay_chart(
-        list,
-        tag.next,
-        SAME_WIDTHS,
-        Counted::Unsaid,
-        &[],
-        values,
-    )
+    replay_chart(list, tag.next, SAME_WIDTHS, Counted::Unsaid, &[], values)
 }
 
 // Replays every case of a list. There is room for the values of one of them.

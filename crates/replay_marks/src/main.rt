@@ -207,13 +207,7 @@ fn replay_set(
 }
 
 // Replays a case from its stops on, which stand at the place `at`. There is room for them.
-fn replay_stops(
-    list: &[u8],
-    at: usize,
-    width: u64,
-    moving: bool,
-    stops: &mut [usize],
-) -> Replayed {
+fn replay_stops(list: &[u8], at: usize, width: u64, moving: bool, stops: &mut [usize]) -> Replayed {
     match lists::read_positions(list, at, Item::Stop, stops) {
         Passed::Next(next) => replay_set(list, next, width, true, moving, stops),
         Passed::Fault(fault) => Replayed::Fault(fault),
@@ -232,13 +226,7 @@ fn replay_stopped(list: &[u8], at: usize, width: u64) -> Replayed {
     };
     let k = count.value as usize;
     let mut stops = [0usize; 4096];
-    replay_stops(
-        list,
-        count.next,
-        width,
-        moving.value == 1,
-        &mut stops[0..k],
-    )
+    replay_stops(list, count.next, width, moving.value == 1, &mut stops[0..k])
 }
 
 // Replays a case in a width mode, whose tag ends at the place `at`.

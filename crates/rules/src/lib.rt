@@ -183,13 +183,14 @@ fn ahead(
 ) -> Marked
     ensures { λ r. ⌜ numbered r ≡ refusal (under limits width (now (stops .entry)) moving) (set .mask) (now (values .entry)) ⌝ }
 {
+    let mask = set.mask;
     if MOST < values.len() {
         return Marked::Refused(Refusal::TooMany);
     }
     if stops::wrong(stops, moving, values.len()) {
         return Marked::Refused(Refusal::Stops);
     }
-    if RuleSet::ALL < set.mask {
+    if RuleSet::ALL < mask {
         return Marked::Refused(Refusal::SetTooLarge);
     }
     if OWN_WIDTHS < width {

@@ -189,8 +189,26 @@ pub fn write(
 {
     if values.len() <= FEW {
         let mut marks = [0u16; FEW];
-        return write_in(values, stops, moving, limits, width, set, out, &mut marks[0..FEW]);
+        return write_in(
+            values,
+            stops,
+            moving,
+            limits,
+            width,
+            set,
+            out,
+            &mut marks[0..FEW],
+        );
     }
     let mut marks = [0u16; MOST];
-    write_in(values, stops, moving, limits, width, set, out, &mut marks[0..MOST])
+    write_in(
+        values,
+        stops,
+        moving,
+        limits,
+        width,
+        set,
+        out,
+        &mut marks[0..MOST],
+    )
 }

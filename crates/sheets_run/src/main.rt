@@ -23,11 +23,7 @@ fn width(set: RuleSet) -> u64 {
 }
 
 fn limits(set: RuleSet) -> Limits {
-    let lcl = if width(set) == OWN_WIDTHS {
-        23.5
-    } else {
-        22.0
-    };
+    let lcl = if width(set) == OWN_WIDTHS { 23.5 } else { 22.0 };
     Limits {
         ucl: 28.0,
         cl: 25.0,

@@ -1,6 +1,7 @@
 -- `rules::widths_of` meets its contract: its operations are those of the definition. Assumes nothing.
 use mathlib.Core.Path.{refl}
 use borrow.Author.Tests.{eq-eqb, ne-eqb}
+use native.Mathlib.Omega.{arith}
 use lib.Ieee.{ofBits}
 use Rattle.rules.specs.Lines.{oneSigma, twoSigma}
 use Rattle.rules.proofs.widths_of.Statement.{statement}
@@ -8,7 +9,7 @@ use Rattle.rules.proofs.widths_of.Tie as tie
 
 returns : tie.Need-returns
 unfolding oneSigma twoSigma ofBits
-returns c = rw (eq-eqb _ 1 (c .before .if1 .taken)) refl
+returns c = rw (eq-eqb (c .before .before .before .args .width) 1 (omega (arith, c .before .if1 .taken))) refl
 
 returns-2 : tie.Need-returns-2
 unfolding oneSigma twoSigma ofBits
