@@ -9,6 +9,7 @@ mod stops;
 mod time;
 
 use data::{Samples, Sizes, LANES, LIMITS, POINTS};
+use ours::{OWN_WIDTHS, SAME_WIDTHS};
 use time::{keep, lasting, median, medians, opaque, single};
 use u_analytics::spc::chart::ChartPoint;
 
@@ -185,12 +186,13 @@ fn short_series(turns: usize) {
     }
 }
 
-/// Eight lanes by turns, a value at a time. The Rust is asked over the last fifteen points, and for the last of them.
+/// Eight lanes by turns, a value at a time. The Rust is asked over the last fifteen points, and for the last of them. The limits
+/// are symmetric to the bit, so width mode 1 has the same marks.
 fn lanes(turns: usize) {
     println!();
     println!(
-        "{:<36}{:>8}{:>16}{:>8}{:>14}",
-        "lanes, ns a value", "ours", "Rust, fifteen", "ratio", "ours, whole"
+        "{:<36}{:>8}{:>16}{:>8}{:>14}{:>14}",
+        "lanes, ns a value", "ours", "Rust, fifteen", "ratio", "ours, mode 1", "ours, whole"
     );
     for (name, set, values) in flows() {
         let series: [Vec<f64>; LANES] =
@@ -202,13 +204,16 @@ fn lanes(turns: usize) {
             (0..POINTS).map(at).collect()
         };
         let (mut marks, mut whole) = (vec![0; POINTS], vec![0; POINTS / LANES]);
-        ours::mark_by_lanes(&values, set, &mut marks);
-        assert_eq!(marks, one_by_one(&points), "marks differ: {name}");
+        let mut own = vec![0; POINTS];
+        ours::mark_by_lanes(&values, SAME_WIDTHS, set, &mut marks);
+        ours::mark_by_lanes(&values, OWN_WIDTHS, set, &mut own);
+        assert_eq!([&marks, &own], [&one_by_one(&points); 2], "marks differ: {name}");
 
-        let [mine, theirs, at_once] = medians(
+        let [mine, by_side, theirs, at_once] = medians(
             turns,
             [
-                &mut || ours::mark_by_lanes(opaque(&values), set, &mut marks),
+                &mut || ours::mark_by_lanes(opaque(&values), SAME_WIDTHS, set, &mut marks),
+                &mut || ours::mark_by_lanes(opaque(&values), OWN_WIDTHS, set, &mut own),
                 &mut || keep(one_by_one(opaque(&points))),
                 &mut || {
                     opaque(&series).iter().for_each(|lane| keep(ours::mark_values(lane, set, &mut whole)))
@@ -216,7 +221,7 @@ fn lanes(turns: usize) {
             ],
         )
         .map(|t| t / POINTS as f64);
-        println!("{name:<36}{mine:>8.2}{theirs:>16.2}{:>8.2}{at_once:>14.2}", mine / theirs);
+        println!("{name:<36}{mine:>8.2}{theirs:>16.2}{:>8.2}{by_side:>14.2}{at_once:>14.2}", mine / theirs);
     }
 }
 

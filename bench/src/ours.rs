@@ -2,6 +2,10 @@
 
 use crate::data::{Samples, Sizes, LANES, LIMITS};
 
+/// The width modes.
+pub const SAME_WIDTHS: u64 = 0;
+pub const OWN_WIDTHS: u64 = 1;
+
 extern "C" {
     fn dramulenz_mark(
         v: *const u8,
@@ -38,6 +42,7 @@ extern "C" {
         ucl: f64,
         cl: f64,
         lcl: f64,
+        width: u64,
         set: u16,
         values: *const f64,
         values_len: usize,
@@ -51,6 +56,7 @@ extern "C" {
         ucl: *const [f64; LANES],
         cl: *const [f64; LANES],
         lcl: *const [f64; LANES],
+        width: u64,
         set: u16,
         values: *const f64,
         values_len: usize,
@@ -141,6 +147,7 @@ pub fn mark_stopped(values: &[f64], stops: &[usize], moving: bool, set: u16, mar
             LIMITS.ucl,
             LIMITS.cl,
             LIMITS.lcl,
+            SAME_WIDTHS,
             set,
             values.as_ptr(),
             values.len(),
@@ -153,11 +160,11 @@ pub fn mark_stopped(values: &[f64], stops: &[usize], moving: bool, set: u16, mar
     }
 }
 
-/// Values of eight lanes by turns, one by one, each with limits that are read for it.
-pub fn mark_by_lanes(values: &[f64], set: u16, marks: &mut [u16]) {
+/// Values of eight lanes by turns, one by one, each with limits that are read for it, in a width mode.
+pub fn mark_by_lanes(values: &[f64], width: u64, set: u16, marks: &mut [u16]) {
     let [ucl, cl, lcl] = [LIMITS.ucl, LIMITS.cl, LIMITS.lcl].map(|limit| [limit; LANES]);
     let (to, room) = (marks.as_mut_ptr(), marks.len());
-    unsafe { bench_lanes(&ucl, &cl, &lcl, set, values.as_ptr(), values.len(), to, room) }
+    unsafe { bench_lanes(&ucl, &cl, &lcl, width, set, values.as_ptr(), values.len(), to, room) }
 }
 
 /// How long the window behind a mark is, or 0 where there is none.

@@ -435,7 +435,9 @@ impl Reader<'_> {
     fn chart_answer(&mut self, count: usize, apart: &[u64]) -> Result<Answer, Fault> {
         Ok(match self.answer(&[&[DONE, 7, 8], apart].concat())? {
             DONE => Answer::Evaluated(self.evaluation(count)?),
-            number if apart.contains(&number) => Answer::Apart(number as u8, [self.figure()?, self.figure()?]),
+            number if apart.contains(&number) => {
+                Answer::Apart(number as u8, [self.figure()?, self.figure()?])
+            }
             number => Answer::Refused(number as u8),
         })
     }

@@ -3,7 +3,8 @@
 //! The boldest come first, so that the first that still differs is the best to go on from.
 
 use crate::case::{
-    AddingCase, AttributesCase, Case, ChartCase, MarksCase, ModedChart, ModedMarks, StoppedChart, StoppedMarks,
+    AddingCase, AttributesCase, Case, ChartCase, MarksCase, ModedChart, ModedMarks, StoppedChart,
+    StoppedMarks,
 };
 use crate::report;
 use std::ops::Range;

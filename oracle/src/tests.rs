@@ -1,8 +1,8 @@
 //! 01's worked examples through the published Rust, 02's stops, width modes and attribute charts, and the reader of lists.
 
 use crate::case::{
-    AddingCase, Answer, Attribute, AttributesCase, Case, ChartCase, Evaluation, Limits, MarksCase, ModedChart,
-    ModedMarks, Record, StoppedChart, StoppedMarks,
+    AddingCase, Answer, Attribute, AttributesCase, Case, ChartCase, Evaluation, Limits, MarksCase,
+    ModedChart, ModedMarks, Record, StoppedChart, StoppedMarks,
 };
 use crate::cases::{self, Part};
 use crate::widths::{self, Mode};
@@ -388,7 +388,8 @@ fn a_bad_mode_is_21() {
 #[test]
 fn a_bad_mode_stands_before_too_few_and_not_in_the_figures() {
     let number = |list: &[u64], values: &[f64]| {
-        let case = StoppedChart { count: list.len() as u64, list: list.to_vec(), chart: chart(1, 1, 1, values) };
+        let case =
+            StoppedChart { count: list.len() as u64, list: list.to_vec(), chart: chart(1, 1, 1, values) };
         match stops::chart(&case, 2) {
             Answer::Apart(number, figures) => (number, figures.map(|f| f.is_ok())),
             _ => panic!("the mode was taken"),

@@ -85,53 +85,53 @@ none-stopped c positions e =
     ap₂ _||_ (le-ltb (length positions) (c .stops) (omega arith))
     (ap (λ (n : ℕ). stopsWrong (pointsIn c 0) (take n positions)) e ∙ none-wrong (pointsIn c 0))
 
-module _ (a : Asked) (wrong mode short : Bool) where
+module _ (a : Asked) (wrong badWidth short : Bool) where
   pub record Ahead : Type 0 where
     pub right : recordWrong (a .chart) (length (a .values)) ≡ false
     pub stopped : wrong ≡ false
-    pub moded : mode ≡ false
+    pub moded : badWidth ≡ false
     pub enough : tooFew (a .chart) ≡ false
     pub room : short ≡ false
 
-  pub were-ahead : firstOf (ahead a wrong mode short) 0 ≡ 0 → Ahead
+  pub were-ahead : firstOf (ahead a wrong badWidth short) 0 ≡ 0 → Ahead
   unfolding Passed every
   were-ahead e =
-      let all = were-passed (ahead a wrong mode short) refl e in
+      let all = were-passed (ahead a wrong badWidth short) refl e in
       record { right = all .0; stopped = all .1 .0; moded = all .1 .1 .0; enough = all .1 .1 .1 .0; room = all .1 .1 .1 .1 .0 }
 
   -- where they are passed, 7 decides
-  whole : firstOf (refusals a wrong mode short) 0
-      ≡ cond (eqb (firstOf (ahead a wrong mode short) 0) 0) (firstOf (drop 6 (refusals a wrong mode short)) 0) (firstOf (ahead a wrong mode short) 0)
+  whole : firstOf (refusals a wrong badWidth short) 0
+      ≡ cond (eqb (firstOf (ahead a wrong badWidth short) 0) 0) (firstOf (drop 6 (refusals a wrong badWidth short)) 0) (firstOf (ahead a wrong badWidth short) 0)
   unfolding every
-  whole = first-append (ahead a wrong mode short) (drop 6 (refusals a wrong mode short)) 0 ∙ first-else (ahead a wrong mode short) _ refl
+  whole = first-append (ahead a wrong badWidth short) (drop 6 (refusals a wrong badWidth short)) 0 ∙ first-else (ahead a wrong badWidth short) _ refl
 
-  module _ (e : firstOf (ahead a wrong mode short) 0 ≡ 0) where
-    by-7 : firstOf (refusals a wrong mode short) 0 ≡ firstOf (drop 6 (refusals a wrong mode short)) 0
-    by-7 = whole ∙ ap (λ (b : Bool). cond b (firstOf (drop 6 (refusals a wrong mode short)) 0) (firstOf (ahead a wrong mode short) 0)) (eq-eqb _ 0 e)
+  module _ (e : firstOf (ahead a wrong badWidth short) 0 ≡ 0) where
+    by-7 : firstOf (refusals a wrong badWidth short) 0 ≡ firstOf (drop 6 (refusals a wrong badWidth short)) 0
+    by-7 = whole ∙ ap (λ (b : Bool). cond b (firstOf (drop 6 (refusals a wrong badWidth short)) 0) (firstOf (ahead a wrong badWidth short) 0)) (eq-eqb _ 0 e)
 
-    pub number-7 : sound a ≡ false → firstOf (refusals a wrong mode short) 0 ≡ 7
+    pub number-7 : sound a ≡ false → firstOf (refusals a wrong badWidth short) 0 ≡ 7
     number-7 h = by-7 ∙ refused _ _ _ _ (ap not h)
 
-    pub number-0 : sound a ≡ true → firstOf (refusals a wrong mode short) 0 ≡ 0
+    pub number-0 : sound a ≡ true → firstOf (refusals a wrong badWidth short) 0 ≡ 0
     number-0 h = by-7 ∙ passed _ _ _ _ (ap not h) ∙ none-applies 0
 
   -- ---- refused ahead of 7
 
-  module _ {why : Refusal} {t : Tested} (is : t ≡ testing.Refused why) (found : tested t ≡ firstOf (ahead a wrong mode short) 0) where
-    e : firstOf (ahead a wrong mode short) 0 ≡ number why
+  module _ {why : Refusal} {t : Tested} (is : t ≡ testing.Refused why) (found : tested t ≡ firstOf (ahead a wrong badWidth short) 0) where
+    e : firstOf (ahead a wrong badWidth short) 0 ≡ number why
     e = sym found ∙ ap tested is
 
-    pub number-ahead : firstOf (refusals a wrong mode short) 0 ≡ number why
+    pub number-ahead : firstOf (refusals a wrong badWidth short) 0 ≡ number why
     number-ahead =
         whole
-        ∙ ap (λ (n : ℕ). cond (eqb n 0) (firstOf (drop 6 (refusals a wrong mode short)) 0) n) e
-        ∙ ap (λ (b : Bool). cond b (firstOf (drop 6 (refusals a wrong mode short)) 0) (number why)) (ne-eqb (number why) 0 (number-some why))
+        ∙ ap (λ (n : ℕ). cond (eqb n 0) (firstOf (drop 6 (refusals a wrong badWidth short)) 0) n) e
+        ∙ ap (λ (b : Bool). cond b (firstOf (drop 6 (refusals a wrong badWidth short)) 0) (number why)) (ne-eqb (number why) 0 (number-some why))
 
     pub slice-refused : {A : Type 0} (nought : A) (written old : List A) → old ≡ lentAfter (number why) nought written old
     unfolding every
     slice-refused nought written old =
         slice-kept nought written old (number why) (number-some why)
-        (ap (λ (n : ℕ). eqb n 7) (sym e) ∙ not-true (eqb (firstOf (ahead a wrong mode short) 0) 7) (first-such (λ n. not (eqb n 7)) (ahead a wrong mode short) refl refl))
+        (ap (λ (n : ℕ). eqb n 7) (sym e) ∙ not-true (eqb (firstOf (ahead a wrong badWidth short) 0) 7) (first-such (λ n. not (eqb n 7)) (ahead a wrong badWidth short) refl refl))
 
 -- ---- the answer, by its number
 

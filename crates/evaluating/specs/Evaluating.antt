@@ -1,6 +1,5 @@
 -- Evaluating: its answer, and what each lent slice then holds (01, 'The charts', last paragraph; 'Numbers a call may give back', rows 3, 6,
--- 7 and 8, and Order; 02, R-1 and R-5: rows 15
--- and 21). Definitions only.
+-- 7 and 8, and Order; 02, R-1 and R-5: rows 15 and 21). Definitions only.
 use mathlib.Core.Bool.{Bool, cond, not, _&&_, _||_}
 use mathlib.Core.List.{List, [], _∷_, map}
 use Prim.Native.Nat.{ℕ, _+_}
@@ -73,13 +72,13 @@ noRoom c main dispersion mainMarks dispersionMarks =
 unfoldable pub sound : Asked → Bool
 sound a = allFinite (seriesOf a 0) && allFinite (seriesOf a 1) && (finiteLimits (limitsOf a 0) && finiteLimits (limitsOf a 1))
 
--- All of them; `wrong` says whether 15 applies, `mode` whether 21 does, `short` whether 6 does. The sigma figures have theirs by this list
--- too ("14, 8, 3, 7, as evaluating would"): they are lent no positions, given no mode and lent no slice that could be refused.
+-- All of them; `wrong` says whether 15 applies, `badWidth` whether 21 does, `short` whether 6 does. The sigma figures have theirs by this
+-- list too ("14, 8, 3, 7, as evaluating would"): they are lent no positions, given no width mode and lent no slice that could be refused.
 abbrev pub refusals : Asked → Bool → Bool → Bool → List (Bool × ℕ)
-refusals a wrong mode short =
+refusals a wrong badWidth short =
     (recordWrong (a .chart) (length (a .values)), 14)
     ∷ (wrong, 15)
-    ∷ (mode, 21)
+    ∷ (badWidth, 21)
     ∷ (tooFew (a .chart), 8)
     ∷ (short, 6)
     ∷ (not (allFinite (stored a)), 3)

@@ -17,7 +17,7 @@ use Rattle.evaluating.specs.Evaluating.{sound, refusals}
 
 -- the refusals ahead of the arithmetic: all but 7
 abbrev pub ahead : Asked → Bool → Bool → Bool → List (Bool × ℕ)
-ahead a wrong mode short = take 6 (refusals a wrong mode short)
+ahead a wrong badWidth short = take 6 (refusals a wrong badWidth short)
 
 -- the number of what the tests of them found
 abbrev pub tested : Tested → ℕ

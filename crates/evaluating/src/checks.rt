@@ -51,8 +51,8 @@ pub fn no_room(
 }
 
 // 14, 15 where positions are wrong, 21 where the width mode is, 8, 6 where a lent slice is too short, and 3.
-pub fn check(c: Chart, values: &[f64], wrong: bool, mode: bool, short: bool) -> Tested
-    ensures { λ r. ⌜ tested r ≡ firstOf (ahead (asked c (now (values .entry))) wrong mode short) 0 ⌝ }
+pub fn check(c: Chart, values: &[f64], wrong: bool, bad_width: bool, short: bool) -> Tested
+    ensures { λ r. ⌜ tested r ≡ firstOf (ahead (asked c (now (values .entry))) wrong «bad_width» short) 0 ⌝ }
 {
     if c.record_wrong(values.len()) {
         return Tested::Refused(Refusal::Record);
@@ -60,7 +60,7 @@ pub fn check(c: Chart, values: &[f64], wrong: bool, mode: bool, short: bool) -> 
     if wrong {
         return Tested::Refused(Refusal::Stops);
     }
-    if mode {
+    if bad_width {
         return Tested::Refused(Refusal::WidthMode);
     }
     if too_few(c) {

@@ -1,5 +1,5 @@
--- For each public call: any two results that its promise allows for the same inputs coincide. And 01's table, proved as one, and that what
--- 02 adds, left out, is 01.
+-- For each public call: any two results that its promise allows for the same inputs coincide. And 01's table, proved as one; that what 02
+-- adds, left out, is 01; and R-5's two modes.
 pub mod Coincide
 mod Floats
 mod Groups
@@ -10,7 +10,6 @@ mod Attributes
 mod Sets
 mod Stops
 mod Rules
-mod Widths
 mod Histories
 mod Evidence
 mod Charts
@@ -20,3 +19,4 @@ mod Reports
 mod Twin
 mod Table
 pub mod Base
+pub mod Widths

@@ -66,8 +66,7 @@ pub fn scale(l: &Limits) -> f64 {
 /// Centre, one sigma above and below, two sigma above and below, limits: as far as they are finite.
 pub fn lines(l: &Limits, mode: Mode) -> Vec<f64> {
     let w = widths::of(l, mode);
-    let all =
-        [l.cl, l.cl + w.above1, l.cl - w.below1, l.cl + w.above2, l.cl - w.below2, l.ucl, l.lcl];
+    let all = [l.cl, l.cl + w.above1, l.cl - w.below1, l.cl + w.above2, l.cl - w.below2, l.ucl, l.lcl];
     all.into_iter().filter(|x| x.is_finite()).collect()
 }
 

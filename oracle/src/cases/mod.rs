@@ -43,13 +43,15 @@ pub fn list(part: Part) -> Vec<Case> {
     match part {
         Part::Marks => {
             let plain: Vec<Case> = marks::list(&mut random).into_iter().map(Case::Marks).collect();
-            let stopped: Vec<Case> = stops::marks_list(&mut random).into_iter().map(Case::StoppedMarks).collect();
+            let stopped: Vec<Case> =
+                stops::marks_list(&mut random).into_iter().map(Case::StoppedMarks).collect();
             let moded = widths::marks_list(&mut random).into_iter().map(Case::ModedMarks);
             plain.into_iter().chain(stopped).chain(moded).collect()
         }
         Part::Charts => {
             let plain: Vec<Case> = charts::list(&mut random).into_iter().map(Case::Chart).collect();
-            let stopped: Vec<Case> = stops::charts_list(&mut random).into_iter().map(Case::StoppedChart).collect();
+            let stopped: Vec<Case> =
+                stops::charts_list(&mut random).into_iter().map(Case::StoppedChart).collect();
             let moded = widths::charts_list(&mut random).into_iter().map(Case::ModedChart);
             plain.into_iter().chain(stopped).chain(moded).collect()
         }

@@ -4,7 +4,7 @@ use super::edges::{lower_flaws, lower_windows};
 use super::flows::{flow, Shape, SHAPES};
 use super::limits::{self, about, ALL};
 use super::{charts, stops};
-use crate::case::{Limits, MarksCase, ModedChart, ModedMarks, StoppedChart, StoppedMarks};
+use crate::case::{ChartCase, Limits, MarksCase, ModedChart, ModedMarks, StoppedChart, StoppedMarks};
 use crate::random::Random;
 use crate::scope::ALL_TESTS;
 use crate::widths::Mode;
@@ -57,28 +57,28 @@ pub fn marks_list(random: &mut Random) -> Vec<ModedMarks> {
     cases
 }
 
+/// A chart that counts all the stops of a list.
+fn charted(width: u64, list: Vec<u64>, chart: ChartCase) -> ModedChart {
+    ModedChart { width, stopped: StoppedChart { count: list.len() as u64, list, chart } }
+}
+
 pub fn charts_list(random: &mut Random) -> Vec<ModedChart> {
     let mut cases = Vec::new();
     for kind in [1, 2, 3] {
         for width in [0, 1, 1] {
-            for data in [charts::wide(random, kind, 16), charts::shaped(random, kind, Shape::Runs, 16)] {
-                cases.push(ModedChart { width, stopped: StoppedChart { count: 0, list: vec![], chart: data } });
-            }
+            cases.push(charted(width, vec![], charts::wide(random, kind, 16)));
+            cases.push(charted(width, vec![], charts::shaped(random, kind, Shape::Runs, 16)));
         }
         for shape in SHAPES {
             let chart = charts::shaped(random, kind, shape, 14);
-            let list: Vec<u64> = (1..14).filter(|_| random.one_in(12)).collect();
-            cases.push(ModedChart { width: 1, stopped: StoppedChart { count: list.len() as u64, list, chart } });
+            let stops = (1..14).filter(|_| random.one_in(12)).collect();
+            cases.push(charted(1, stops, chart));
         }
         // 15 before 21, and 21 before 8 and 7.
         for width in NO_MODES {
-            for (n, stop) in [(5, 1), (5, 5), (0, 1)] {
-                let chart = stops::widening(kind, n);
-                cases.push(ModedChart { width, stopped: StoppedChart { count: 1, list: vec![stop], chart } });
-            }
-            for chart in [stops::widening(kind, 0), stops::past(kind)] {
-                cases.push(ModedChart { width, stopped: StoppedChart { count: 0, list: vec![], chart } });
-            }
+            let widening = |n, stop| charted(width, vec![stop], stops::widening(kind, n));
+            cases.extend([widening(5, 1), widening(5, 5), widening(0, 1)]);
+            cases.extend([stops::widening(kind, 0), stops::past(kind)].map(|c| charted(width, vec![], c)));
         }
     }
     cases

@@ -24,14 +24,14 @@ short c =
 abbrev wrong : tie.Start → Bool
 wrong c = positionsWrong (c .args .chart) (c .args .positions .now)
 
-abbrev mode : tie.Start → Bool
-mode c = widthWrong (c .args .width)
+abbrev bad-width : tie.Start → Bool
+bad-width c = widthWrong (c .args .width)
 
 -- what the tests found, by the definition's words for positions that are wrong and a room too short
-found : (c : tie.After-check) → (let start = c .before .before .before .before .before .before .before .before .before in tested (c .check .result) ≡ firstOf (ahead (question start) (wrong start) (mode start) (short start)) 0)
+found : (c : tie.After-check) → (let start = c .before .before .before .before .before .before .before .before .before in tested (c .check .result) ≡ firstOf (ahead (question start) (wrong start) (bad-width start) (short start)) 0)
 found c =
     let start = c .before .before .before .before .before .before .before .before .before in
-    c .check .ensures ∙ ap₂ (λ (b d : Bool). firstOf (ahead (question start) b (mode start) d) 0) (c .before .positions-wrong .ensures) (c .before .before .no-room .ensures)
+    c .check .ensures ∙ ap₂ (λ (b d : Bool). firstOf (ahead (question start) b (bad-width start) d) 0) (c .before .positions-wrong .ensures) (c .before .before .no-room .ensures)
 
 evaluate-requires : tie.Need-evaluate-requires
 evaluate-requires c κs = sym (found (c .before .before .before .before .before .before)) ∙ ap tested (c .before .before .before .before .enum-told .given .1)
@@ -42,12 +42,12 @@ returns c =
     let is = c .before .why .given .1 in
     let all = found (c .before .before .before) in
     let a = question start in (
-      answer-refused a (short start) _ (number-ahead a (wrong start) (mode start) (short start) is all) (number-some (c .before .why .given .0 .0)),
+      answer-refused a (short start) _ (number-ahead a (wrong start) (bad-width start) (short start) is all) (number-some (c .before .why .given .0 .0)),
       (
-        slice-refused a (wrong start) (mode start) (short start) is all _ _ _,
+        slice-refused a (wrong start) (bad-width start) (short start) is all _ _ _,
         (
-          slice-refused a (wrong start) (mode start) (short start) is all _ _ _,
-          (slice-refused a (wrong start) (mode start) (short start) is all _ _ _, slice-refused a (wrong start) (mode start) (short start) is all _ _ _),
+          slice-refused a (wrong start) (bad-width start) (short start) is all _ _ _,
+          (slice-refused a (wrong start) (bad-width start) (short start) is all _ _ _, slice-refused a (wrong start) (bad-width start) (short start) is all _ _ _),
         ),
       ),
     )
