@@ -2,6 +2,7 @@
 use histories::Answer;
 use histories::Lane;
 use rules::Limits;
+use rules::OWN_WIDTHS;
 use sets::RuleSet;
 ghost use Prim.Native.Nat.{_≤_};
 ghost use lib.ListN.{length};
@@ -15,7 +16,7 @@ fn before(lane: Lane, stops: &[usize], moving: bool, i: usize) -> Lane {
 }
 
 /// Marks each value by a lane that is started again at each stop. 01's number: 15 where the stops are none of the series, that
-/// of the first value that is refused, or 0.
+/// of the first value that is refused, or 0; where there are no values, 21 for a bad width mode, which no lane is then told.
 pub fn mark(
     values: &[f64],
     stops: &[usize],
@@ -41,6 +42,9 @@ pub fn mark(
         }
         lane = taken.lane;
         i += 1;
+    }
+    if OWN_WIDTHS < width {
+        return 21;
     }
     0
 }
