@@ -32,9 +32,9 @@ use Rattle.evaluating.specs.Asked.{Asked, stored}
 use Rattle.evaluating.specs.Evaluating.{positionsWrong, tooFew, sound, answerFor, evaluateOf}
 use Rattle.promises.proofs.Base.{lines01, lines-are-01}
 
-module _ (l : Limits) (stops : List ℕ) (moving : Bool) (set : ℕ) (values : List Float) where
-  -- ---- mode 0
+-- ---- mode 0
 
+module _ (l : Limits) (stops : List ℕ) (moving : Bool) (set : ℕ) (values : List Float) where
   -- "5, 15, 4, 3 for limits, 3 for values", as R-1 left them
   pub aheadStopped : List (Bool × ℕ)
   aheadStopped =
@@ -65,12 +65,6 @@ module _ (l : Limits) (stops : List ℕ) (moving : Bool) (set : ℕ) (values : L
   unfolding shownAt
   shown-as-before at bit = rw (lines-are-01 l) refl
 
-  -- ---- "limits symmetric to the bit": both modes agree
-
-  pub marks-agree : sub binary64 (l .cl) (l .lcl) ≡ sub binary64 (l .ucl) (l .cl) → marksOf (under l 1 stops moving) set values ≡ marksOf (under l 0 stops moving) set values
-  unfolding marksOf
-  marks-agree symmetric = ap (λ (m : Lines). marksBy (cutAt stops moving) m set values) (modes-agree l symmetric 1)
-
 -- a lane: "3 and 4, in marking's order"
 pub taken-as-before : (l : Limits) (set : ℕ) (lane : Lane) (v : Float)
     → takeValue l 0 set lane v
@@ -90,6 +84,14 @@ pub evaluated-as-before : (a : Asked) → a .width ≡ 0 → (short : Bool)
     a
 unfolding evaluateOf firstOf
 evaluated-as-before a default short = rw default refl
+
+-- ---- "limits symmetric to the bit": both modes agree
+
+pub marks-agree : (l : Limits) (stops : List ℕ) (moving : Bool) (set : ℕ) (values : List Float)
+    → sub binary64 (l .cl) (l .lcl) ≡ sub binary64 (l .ucl) (l .cl)
+    → marksOf (under l 1 stops moving) set values ≡ marksOf (under l 0 stops moving) set values
+unfolding marksOf
+marks-agree l stops moving set values symmetric = ap (λ (m : Lines). marksBy (cutAt stops moving) m set values) (modes-agree l symmetric 1)
 
 -- ---- worked: the limits 31, 25, 22 and two of three values at 22.5
 
