@@ -1,6 +1,7 @@
 // Runs the engine that keeps histories in bits over a hundred thousand values, with calls between them that have to be
-// refused. Writes how many were taken and refused, how often each test was marked, and one number that all marks come to:
-// `oracle/runs` has the published Rust work them out.
+// refused. Both width modes come in turn: the limits are symmetric to the bit, so the marks are those of mode 0. Writes how
+// many were taken and refused, how often each test was marked, and one number that all marks come to: `oracle/runs` has the
+// published Rust work them out.
 use histories::Answer;
 use histories::Lane;
 use histories::Taken;
@@ -13,7 +14,7 @@ const VALUES: u64 = 100_000;
 // How many values of one kind follow each other.
 const STRETCH: u64 = 40;
 
-// After so many values come four calls that have to be refused.
+// After so many values come five calls that have to be refused.
 const BETWEEN: u64 = 1000;
 
 // What is counted: the marks of each test, then the values taken and refused, and all marks folded into one number.

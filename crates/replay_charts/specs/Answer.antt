@@ -36,8 +36,8 @@ linesOf f = f .main .ucl ∷ f .main .cl ∷ f .main .lcl ∷ f .dispersion .ucl
 abbrev pub apart : ℕ → Bool
 apart n = eqb n 15 || eqb n 21
 
--- "01's number for evaluating"; "After 15" and "After 21 both sigma figures follow"; "After 7 or 8 the case is over"; "After 0 there follow" the limits, "d, the
--- number of points of the dispersion series", and the above
+-- "01's number for evaluating"; "After 15" and "After 21 both sigma figures follow"; "After 7 or 8 the case is over"; "After 0 there follow"
+-- the limits, "d, the number of points of the dispersion series", and the above
 unfoldable pub answerOf : Answers → List Float → List Float → List ℕ → List ℕ → List ℕ
 answerOf a main dispersion mainMarks dispersionMarks =
     cond (apart (a .number)) ((a .number ∷ []) ++ figuresOf a)

@@ -1,6 +1,7 @@
-// Runs the sheet's writer and checker: 01's rows 10 and 11; a hundred sheets, each accepted, and refused with any one byte
-// changed, cut at any place, or with any byte more; and the longest sheet. Writes how often the checker gave each number,
-// and one number that all answers come to, with their places and marks: `oracle/runs` works it out from 01 by itself.
+// Runs the sheet's writer and checker: 01's rows 10 and 11; a hundred sheets, about half of them in width mode 1, each
+// accepted, and refused with any one byte changed, cut at any place, or with any byte more; and the longest sheet. Writes how
+// often the checker gave each number, and one number that all answers come to, with their places and marks: `oracle/runs`
+// works it out from 01 and 02 by itself.
 use libc::STDOUT_FILENO;
 use rules::Limits;
 use rules::MOST;
