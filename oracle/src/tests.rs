@@ -1,4 +1,5 @@
-//! 01's worked examples through the published Rust, 02's stops, width modes and attribute charts, and the reader of lists.
+//! 01's worked examples through the published Rust, the set of its new charts, 02's stops, width modes and attribute charts,
+//! and the reader of lists.
 
 use crate::case::{
     AddingCase, Answer, Attribute, AttributesCase, Case, ChartCase, Evaluation, Limits, MarksCase,
@@ -188,6 +189,16 @@ fn too_few_is_8_and_not_finite_is_7() {
     for kind in [2, 3] {
         assert_eq!(refusal(chart(kind, 2, 1, &[f64::MAX, -f64::MAX])), 7);
         assert_eq!(refusal(chart(kind, 2, 1, &[f64::MAX, f64::MAX])), 7);
+    }
+}
+
+/// docs/DIFFERENCES.md has it: ours has nelson since 02's R-6, so the judge and our replay both name the set.
+#[test]
+fn a_new_chart_of_the_rust_has_shewhart() {
+    assert_eq!(IndividualMRChart::new().rules(), RuleSet::shewhart());
+    for size in 2..=25 {
+        assert_eq!(XBarRChart::new(size).unwrap().rules(), RuleSet::shewhart());
+        assert_eq!(XBarSChart::new(size).unwrap().rules(), RuleSet::shewhart());
     }
 }
 

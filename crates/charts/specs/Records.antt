@@ -1,5 +1,5 @@
 -- The record of a chart, and the calls that make one and change one (01, 'The charts'; 'Numbers a call may give back', rows 1, 2, 4, 5, 6
--- and 14, and Order; 02, R-1: the count of stops). Definitions only.
+-- and 14, and Order; 02, R-1: the count of stops; R-6: a new chart's set). Definitions only.
 use mathlib.Core.Bool.{Bool, cond, not, _||_}
 use mathlib.Core.List.{List, [], _∷_, _++_}
 use Prim.Native.Nat.{ℕ, _+_, _*_}
@@ -76,9 +76,9 @@ withStops c stops = record { kind = c .kind; size = c .size; count = c .count; s
 
 -- ---- "New chart: 14 for the kind, 1."
 
--- "A new chart has shewhart."
+-- "A new chart's set becomes nelson." (02, R-6)
 abbrev pub newSet : RuleSet
-newSet = record { mask = 1 }
+newSet = record { mask = 255 }
 
 -- with a count of stops that is "0 when new" (02, R-1)
 abbrev pub newChart : ℕ → ℕ → Chart

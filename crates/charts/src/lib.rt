@@ -107,13 +107,12 @@ impl Changed {
 }
 
 impl Chart {
-    /// A chart with no samples, the set shewhart and no stops.
+    /// A chart with no samples, the set nelson and no stops. [`Chart::with_set`] gives it another set.
     ///
     /// Gives `Done` with the chart. Refuses, in this order: a kind that is not 1 to 3 (14, `Record`), a size that is not
     /// allowed for the kind (1, `Size`).
     ///
-    /// `Chart::new(2, 5)` is `Changed::Done` with `Chart { kind: 2, size: 5, count: 0, set: RuleSet::shewhart(), stops: 0
-    /// }`.
+    /// `Chart::new(2, 5)` is `Changed::Done` with `Chart { kind: 2, size: 5, count: 0, set: RuleSet::nelson(), stops: 0 }`.
     pub fn new(kind: u64, size: usize) -> Changed
         ensures { λ r. ⌜ changed noChart r ≡ newOf kind size ⌝ }
     {
@@ -127,7 +126,7 @@ impl Chart {
             kind: kind,
             size: size,
             count: 0,
-            set: RuleSet::shewhart(),
+            set: RuleSet::nelson(),
             stops: 0,
         })
     }
@@ -157,7 +156,7 @@ impl Chart {
     /// Gives `Done` with the chart. Refuses, in this order: a record that is no chart, by its own numbers (14, `Record`),
     /// a set over 511 (4, `Set`).
     ///
-    /// `chart.with_set(RuleSet::nelson())` is `Changed::Done` with the same chart, but for `set: RuleSet::nelson()`.
+    /// `chart.with_set(RuleSet::shewhart())` is `Changed::Done` with the same chart, but for `set: RuleSet::shewhart()`.
     pub fn with_set(self, set: RuleSet) -> Changed
         ensures { λ r. ⌜ changed self r ≡ withSetOf self set ⌝ }
     {

@@ -1,14 +1,18 @@
 -- Demand 2 compares with 01: what is asked with nothing that 02 adds is answered as 01 says. With no stops (R-1) and in width mode 0 (R-5) it
--- is so for marking, checking, writing, evidence, evaluating and the sigma figures. 01's own words that a request has moved stand here once; a
--- later request adds to this file what it leaves as it was. Assumes nothing.
-use mathlib.Core.Path.{_≡_, refl, ap, ap₂, _∙_, fun-ext}
-use mathlib.Core.Bool.{Bool, false, not, _&&_, cond}
+-- is so for marking, checking, writing, evidence, evaluating and the sigma figures; a new chart is 01's once its set is changed to shewhart
+-- (R-6). 01's own words that a request has moved stand here once; a later request adds to this file what it leaves as it was. Assumes nothing.
+use mathlib.Core.Path.{_≡_, refl, sym, ap, ap₂, _∙_, fun-ext}
+use mathlib.Core.Bool.{Bool, true, false, not, _&&_, cond}
 use mathlib.Core.List.{List, [], _∷_, _++_}
 use Prim.Native.Nat.{ℕ, zero, suc, _+_}
 use lib.Dec.{eqb, ltb}
 use lib.Ieee.{Float, nan, fin, add, sub, mul, div, binary64}
 use lib.IntN.{pos}
 use lib.ListN.{length, take, getD}
+use contract.Lifetimes.{Lfts}
+use denote.Triple.Clauses.{AtExit}
+use borrow.Fn.Kinds.{Dens, endedOf}
+use borrow.Author.Tests.{ne-eqb}
 use Rattle.laws.specs.Refusals.{firstOf, each}
 use Rattle.laws.specs.Lists.{tabulate}
 use Rattle.laws.specs.Front.{atFront}
@@ -17,7 +21,10 @@ use Rattle.stops.specs.Stops.{cutAt, mainPoints}
 use Rattle.stops.specs.Cuts.{unbroken}
 use Rattle.stops.proofs.Cuts.{no-stops}
 use Rattle.stops.proofs.Rising.{none-wrong}
+use Rattle.sets.specs.declared.RuleSet.{RuleSet}
 use Rattle.sets.specs.Sets.{tests, testOf, has, setOf, tooLarge}
+use Rattle.sets.proofs.RuleSet.shewhart.Reads as shewhart
+use Rattle.sets.proofs.RuleSet.shewhart.Kinds as shewhart-kinds
 use Rattle.rules.specs.declared.Limits.{Limits}
 use Rattle.rules.specs.declared.Lines.{Lines}
 use Rattle.rules.specs.Lines.{widthWrong, oneSigma, twoSigma, linesOf}
@@ -29,7 +36,16 @@ use Rattle.evidence.specs.Evidence.{shownAt}
 use Rattle.sheets.specs.Sheet.{sheetOf}
 use Rattle.sheets.specs.Said.{said}
 use Rattle.sheets.specs.Answers.{plain, judged, checkOf, seriesSheet, writeOf, roomAfter}
-use Rattle.charts.specs.Records.{recordWrong}
+use Rattle.charts.specs.declared.Chart.{Chart}
+use Rattle.charts.specs.declared.Refusal.{Refusal}
+use Rattle.charts.specs.declared.Changed.{Changed}
+use Rattle.charts.specs.declared.Changed.the-variants.{Done, Refused}
+use Rattle.charts.specs.Records.{number, changed, kindWrong, sizeWrong, ownWrong, recordWrong, noChart, newOf, withSetOf}
+use Rattle.charts.proofs.Answers.{number-some}
+use Rattle.charts.proofs.Chart.new.Reads as new
+use Rattle.charts.proofs.Chart.new.Kinds as new-kinds
+use Rattle.charts.proofs.Chart.with_set.Reads as with-set
+use Rattle.charts.proofs.Chart.with_set.Kinds as with-set-kinds
 use Rattle.evaluating.specs.Asked.{Asked, stored}
 use Rattle.evaluating.specs.Series.{seriesOf, movingIn}
 use Rattle.evaluating.specs.Limits.{limitsOf}
@@ -81,6 +97,13 @@ refusals01 a short =
     ∷ (not (allFinite (stored a)), 3)
     ∷ (not (sound a), 7)
     ∷ []
+
+-- "New chart: 14 for the kind, 1."; "A new chart has shewhart."
+pub new01 : ℕ → ℕ → ℕ × Chart
+new01 kind size =
+    firstOf
+    ((kindWrong kind, (14, noChart)) ∷ (sizeWrong kind size, (1, noChart)) ∷ [])
+    (0, record { kind = kind; size = size; count = 0; set = record { mask = 1 }; stops = 0 })
 
 -- ---- lines
 
@@ -186,3 +209,41 @@ module _ (a : Asked) (none : a .chart .stops ≡ 0) (default : a .width ≡ 0) w
 pub figure-is-01 : (a : Asked) → sigmaNumber a ≡ firstOf (refusals01 a false) 0
 unfolding sigmaNumber refusals01 firstOf
 figure-is-01 a = refl
+
+-- ---- a new chart, its set changed to shewhart
+
+-- What making a chart answers, its set then changed to the one of this mask; where none is made, that answer.
+pub thenSet : ℕ → ℕ × Chart → ℕ × Chart
+thenSet mask made = cond (eqb (made .0) 0) (withSetOf (made .1) (record { mask = mask })) made
+
+pub new-is-01 : (kind size : ℕ) → thenSet 1 (newOf kind size) ≡ new01 kind size
+unfolding thenSet newOf withSetOf ownWrong new01 firstOf
+new-is-01 kind size = by (kindWrong kind) (sizeWrong kind size) refl refl
+  where
+    by : (k z : Bool) → kindWrong kind ≡ k → sizeWrong kind size ≡ z → thenSet 1 (newOf kind size) ≡ new01 kind size
+    by true z e f = simp e
+    by false true e f = simp (e, f)
+    by false false e f = simp (e, f)
+
+-- The same of the calls: `Post` is what each promises of its result, told its arguments.
+module _ (κs : Lfts 0) (a : Dens κs new-kinds.ps) (made : Changed) (s : AtExit (endedOf 0 new-kinds.ps new-kinds.r) κs)
+    (new-promised : new.Post κs a made s) where
+  -- what `new` refuses, 01 does, by that number
+  pub new-refused-is-01 : (why : Refusal) → made ≡ Refused why → (number why, noChart) ≡ new01 (a .0) (a .1 .0)
+  unfolding thenSet
+  new-refused-is-01 why e =
+      let answered : (number why, noChart) ≡ newOf (a .0) (a .1 .0) = ap (changed noChart) (sym e) ∙ new-promised in
+      sym (simp (ne-eqb (number why) 0 (number-some why))) ∙ ap (thenSet 1) answered ∙ new-is-01 (a .0) (a .1 .0)
+
+  -- to the chart that it gives, with the set that `shewhart` gives, `with_set` answers 01's new chart
+  pub new-changed-is-01 : (c : Chart) → made ≡ Done c
+      → (set : RuleSet) (t : AtExit (endedOf 0 shewhart-kinds.ps shewhart-kinds.r) κs) → shewhart.Post κs tt set t
+      → (answer : Changed) (u : AtExit (endedOf 0 with-set-kinds.ps with-set-kinds.r) κs) → with-set.Post κs (c, (set, tt)) answer u
+      → changed c answer ≡ new01 (a .0) (a .1 .0)
+  unfolding thenSet
+  new-changed-is-01 c given set t shewhart-promised answer u with-set-promised =
+      let answered : (0, c) ≡ newOf (a .0) (a .1 .0) = ap (changed noChart) (sym given) ∙ new-promised in
+      with-set-promised
+      ∙ ap (λ (m : ℕ). withSetOf c (record { mask = m })) shewhart-promised
+      ∙ ap (thenSet 1) answered
+      ∙ new-is-01 (a .0) (a .1 .0)

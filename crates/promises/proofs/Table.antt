@@ -78,9 +78,9 @@ flat : Limits
 unfolding half
 flat = record { ucl = half 50; cl = half 50; lcl = half 50 }
 
--- a new chart of this kind and size, with the set shewhart and no stops
+-- a new chart of this kind and size, with the set nelson and no stops
 taken : ℕ → ℕ → ℕ × Chart
-taken kind size = (0, record { kind = kind; size = size; count = 0; set = record { mask = 1 }; stops = 0 })
+taken kind size = (0, record { kind = kind; size = size; count = 0; set = record { mask = 255 }; stops = 0 })
 
 -- a size that is not allowed, with a record that is all zero
 badSize : ℕ × Chart

@@ -193,7 +193,7 @@ impl RuleSet {
     /// The mask of the set with all nine tests, the largest of a set.
     pub const ALL: u16 = 511;
 
-    /// The test beyond limits alone: Shewhart's criterion, and the set of a new chart.
+    /// The test beyond limits alone: Shewhart's criterion.
     ///
     /// `RuleSet::shewhart().mask` is 1.
     pub fn shewhart() -> RuleSet

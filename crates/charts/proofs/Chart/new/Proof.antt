@@ -2,6 +2,7 @@
 use mathlib.Core.Path.{_≡_, sym, ap, _∙_}
 use mathlib.Core.Bool.{true}
 use Prim.Native.Nat.{ℕ}
+use native.Mathlib.Omega.{arith}
 use Rattle.laws.proofs.Bools.{told}
 use Rattle.laws.proofs.Refusals.{passed, refused, none-applies}
 use Rattle.charts.specs.Records.{kindWrong, newOf}
@@ -30,19 +31,16 @@ returns-2 c =
     let kind-wrong = c .before .before .before .kind-wrong in
     sym (passed _ _ _ _ (told (kind-wrong .ensures) (if1 .left)) ∙ refused _ _ _ _ (told (size-wrong .ensures) (if2 .taken)))
 
-shewhart-requires : tie.Need-shewhart-requires
-shewhart-requires c κs = search needs
-
+-- The set is known by its mask alone, whichever function gives it.
 returns-3 : tie.Need-returns-3
 unfolding newOf
 returns-3 c =
-    let shewhart = c .shewhart in
     let if2 = c .before .if2 in
     let size-wrong = c .before .before .size-wrong in
     let if1 = c .before .before .before .if1 in
     let kind-wrong = c .before .before .before .before .kind-wrong in
     let args = c .before .before .before .before .before .args in
-    ap (λ (m : ℕ). (0, record { kind = args .kind; size = args .size; count = 0; set = record { mask = m }; stops = 0 })) (shewhart .ensures)
+    ap (λ (m : ℕ). (0, record { kind = args .kind; size = args .size; count = 0; set = record { mask = m }; stops = 0 })) (omega arith)
     ∙ sym (passed _ _ _ _ (told (kind-wrong .ensures) (if1 .left)) ∙ passed _ _ _ _ (told (size-wrong .ensures) (if2 .left)) ∙ none-applies _)
 
 pub new-spec : {M : Type 1} → statement M
@@ -53,5 +51,5 @@ new-spec =
     returns
     size-wrong-requires
     returns-2
-    shewhart-requires
+    (λ c κs. search needs)
     returns-3)
