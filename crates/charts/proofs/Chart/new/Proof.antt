@@ -31,7 +31,7 @@ returns-2 c =
     let kind-wrong = c .before .before .before .kind-wrong in
     sym (passed _ _ _ _ (told (kind-wrong .ensures) (if1 .left)) ∙ refused _ _ _ _ (told (size-wrong .ensures) (if2 .taken)))
 
--- The set is known by its mask alone, whichever function gives it.
+-- The set is known by its mask alone, whichever function gives it: so a wrong one fails by its number.
 returns-3 : tie.Need-returns-3
 unfolding newOf
 returns-3 c =
