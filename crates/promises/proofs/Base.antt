@@ -228,7 +228,7 @@ new-is-01 kind size = by (kindWrong kind) (sizeWrong kind size) refl refl
 -- The same of the calls: `Post` is what each promises of its result, told its arguments.
 module _ (κs : Lfts 0) (a : Dens κs new-kinds.ps) (made : Changed) (s : AtExit (endedOf 0 new-kinds.ps new-kinds.r) κs)
     (new-promised : new.Post κs a made s) where
-  -- what `new` refuses, 01 does, by that number
+  -- what `new` refuses, 01 refuses by the same number
   pub new-refused-is-01 : (why : Refusal) → made ≡ Refused why → (number why, noChart) ≡ new01 (a .0) (a .1 .0)
   unfolding thenSet
   new-refused-is-01 why e =

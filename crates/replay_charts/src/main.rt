@@ -90,8 +90,8 @@ fn changed(made: Made, answer: Changed) -> Made {
     }
 }
 
-// Makes a chart with no samples. Its set is named, as on the oracle's side, since a new chart of the Rust has another set than
-// one of ours. Where that is refused it is the record that it ought to be.
+// Makes a chart with no samples; where that is refused it is the record that it ought to be. Its set is named, as on the
+// oracle's side, since a new chart of the Rust has another set than one of ours.
 fn make(kind: u64, size: usize, set: RuleSet) -> Made {
     let chart = Chart {
         kind,
