@@ -10,7 +10,7 @@ use super::Refusal;
 pub const MOST: u64 = 4294967295;
 
 // What tests find.
-#[derive(Drop)]
+#[derive(Clone, Copy)]
 pub enum Tested {
     Passed,
     Refused(Refusal),

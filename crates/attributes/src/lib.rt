@@ -16,7 +16,7 @@ ghost use Rattle.attributes.specs.Evaluating.{evaluated, plot_p, plot_u, evaluat
 use checks::Tested;
 
 /// The centre of a chart.
-#[derive(Drop)]
+#[derive(Clone, Copy)]
 pub enum Centre {
     /// Computed from the samples.
     Computed,
@@ -30,7 +30,7 @@ pub enum Centre {
 /// The fields may be any. A record that is no chart is refused by every call (14): its given centre is not finite and
 /// strictly between 0 and 1, its count is over 4,096, or over the length of one of the slices; by [`PChart::evaluate`] also
 /// where a stored sample is one that [`PChart::add`] refuses.
-#[derive(Drop)]
+#[derive(Clone, Copy)]
 pub struct PChart {
     /// The centre: computed, or a given one.
     pub centre: Centre,
@@ -44,7 +44,7 @@ pub struct PChart {
 /// The fields may be any. A record that is no chart is refused by every call (14): its given centre is not finite and above
 /// 0, its count is over 4,096, or over the length of one of the slices; by [`UChart::evaluate`] also where a stored sample
 /// is one that [`UChart::add`] refuses.
-#[derive(Drop)]
+#[derive(Clone, Copy)]
 pub struct UChart {
     /// The centre: computed, or a given one.
     pub centre: Centre,
@@ -53,7 +53,7 @@ pub struct UChart {
 }
 
 /// Why a call is refused. The number is that of documents 01 and 02.
-#[derive(Drop)]
+#[derive(Clone, Copy)]
 pub enum Refusal {
     /// The chart holds 4,096 samples (5).
     Full,
@@ -78,7 +78,7 @@ pub enum Refusal {
 }
 
 /// What making or changing a P chart answers.
-#[derive(Drop)]
+#[derive(Clone, Copy)]
 pub enum PChanged {
     /// The chart (0).
     Done(PChart),
@@ -87,7 +87,7 @@ pub enum PChanged {
 }
 
 /// What making or changing a U chart answers.
-#[derive(Drop)]
+#[derive(Clone, Copy)]
 pub enum UChanged {
     /// The chart (0).
     Done(UChart),
@@ -96,7 +96,7 @@ pub enum UChanged {
 }
 
 /// What evaluating answers.
-#[derive(Drop)]
+#[derive(Clone, Copy)]
 pub enum Evaluated {
     /// The centre (0).
     Done(f64),

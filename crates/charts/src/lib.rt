@@ -23,7 +23,7 @@ pub const X_BAR_S: u64 = 3;
 /// The numbers may be any. A record that is no chart is refused by every call (14): its kind is not 1 to 3, its size is
 /// not one of the kind (1 for kind 1, 2 to 25 for kinds 2 and 3), its count is over 4,096, its set is over 511, or, where
 /// values are lent, count times size is over their length.
-#[derive(Drop)]
+#[derive(Clone, Copy)]
 pub struct Chart {
     /// [`INDIVIDUALS`] (1), [`X_BAR_R`] (2) or [`X_BAR_S`] (3).
     pub kind: u64,
@@ -38,7 +38,7 @@ pub struct Chart {
 }
 
 /// Why a call is refused. The number is that of document 01, "Numbers a call may give back".
-#[derive(Drop)]
+#[derive(Clone, Copy)]
 pub enum Refusal {
     /// The size is not allowed for the kind (1).
     Size,
@@ -67,7 +67,7 @@ pub enum Refusal {
 }
 
 /// What making or changing a chart answers.
-#[derive(Drop)]
+#[derive(Clone, Copy)]
 pub enum Changed {
     /// The chart (0).
     Done(Chart),

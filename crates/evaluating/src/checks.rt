@@ -9,7 +9,7 @@ use super::series;
 use charts::{Chart, INDIVIDUALS, Refusal};
 
 // What the tests find.
-#[derive(Drop)]
+#[derive(Clone, Copy)]
 pub enum Tested {
     Passed,
     Refused(Refusal),

@@ -22,7 +22,7 @@ use checks::Tested;
 use rules::{Limits, OWN_WIDTHS};
 
 /// What [`points`] answers.
-#[derive(Drop)]
+#[derive(Clone, Copy)]
 pub enum Lengths {
     /// How many points the main and the dispersion series have (0).
     Done { main: usize, dispersion: usize },
@@ -31,7 +31,7 @@ pub enum Lengths {
 }
 
 /// What evaluating finds.
-#[derive(Drop)]
+#[derive(Clone, Copy)]
 pub struct Evaluation {
     /// The limits of the main series.
     pub main: Limits,
@@ -42,7 +42,7 @@ pub struct Evaluation {
 }
 
 /// What [`evaluate`] answers.
-#[derive(Drop)]
+#[derive(Clone, Copy)]
 pub enum Evaluated {
     /// The limits and the number of marks (0).
     Done(Evaluation),
@@ -51,7 +51,7 @@ pub enum Evaluated {
 }
 
 /// What [`limits_about`] answers.
-#[derive(Drop)]
+#[derive(Clone, Copy)]
 pub enum Limited {
     /// The limits of both series (0).
     Done { main: Limits, dispersion: Limits },
@@ -60,7 +60,7 @@ pub enum Limited {
 }
 
 /// The sigma figures.
-#[derive(Drop)]
+#[derive(Clone, Copy)]
 pub struct SigmaFigures {
     /// That of [`sigma_hat`].
     pub sigma_hat: f64,
@@ -69,7 +69,7 @@ pub struct SigmaFigures {
 }
 
 /// What [`estimate`] answers.
-#[derive(Drop)]
+#[derive(Clone, Copy)]
 pub enum Estimated {
     /// Both figures (0).
     Done(SigmaFigures),
@@ -78,7 +78,7 @@ pub enum Estimated {
 }
 
 /// What [`sigma_hat`] and [`sigma_hat_df`] answer.
-#[derive(Drop)]
+#[derive(Clone, Copy)]
 pub enum Figure {
     /// The figure (0).
     Done(f64),

@@ -12,7 +12,7 @@ use charts::{Chart, INDIVIDUALS, X_BAR_R};
 use rules::Limits;
 
 // The limits of both series, and whether they and all points are finite.
-#[derive(Drop)]
+#[derive(Clone, Copy)]
 pub struct Measured {
     pub main: Limits,
     pub dispersion: Limits,

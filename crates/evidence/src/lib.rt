@@ -24,7 +24,7 @@ fn shows_pattern(part: &[f64], limits: Limits, width: u64, t: Test) -> bool
 }
 
 // Where a window starts and ends in its series.
-#[derive(Drop)]
+#[derive(Clone, Copy)]
 struct Span {
     start: usize,
     end: usize,

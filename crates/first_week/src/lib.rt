@@ -18,7 +18,7 @@ use rules::Limits;
 use sets::RuleSet;
 
 /// What first-week limits are.
-#[derive(Drop)]
+#[derive(Clone, Copy)]
 pub struct FirstWeek {
     /// The limits of the main series.
     pub main: Limits,
@@ -29,7 +29,7 @@ pub struct FirstWeek {
 }
 
 /// What [`limits`] answers.
-#[derive(Drop)]
+#[derive(Clone, Copy)]
 pub enum Trimmed {
     /// The limits and the number of rounds (0).
     Done(FirstWeek),

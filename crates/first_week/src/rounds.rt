@@ -10,7 +10,7 @@ use evaluating::Limited;
 use rules::Limits;
 
 // What the rounds come to.
-#[derive(Drop)]
+#[derive(Clone, Copy)]
 pub enum Settled {
     // The limits, and how many subgroups are kept.
     Done { limits: FirstWeek, kept: usize },

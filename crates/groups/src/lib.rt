@@ -4,7 +4,7 @@ ghost use Rattle.laws.specs.Front.{at_front_if_room, room_for};
 ghost use Rattle.groups.specs.Groups.{groups, number_at, found, written};
 
 /// What reading a number finds.
-#[derive(Drop)]
+#[derive(Clone, Copy)]
 pub enum Reading {
     /// The number, and the place just past its last byte (0).
     Number { value: u64, next: usize },
@@ -14,7 +14,7 @@ pub enum Reading {
 }
 
 /// What writing a number comes to.
-#[derive(Drop)]
+#[derive(Clone, Copy)]
 pub enum Writing {
     /// So many bytes at the front of the room were taken (0).
     Bytes(usize),

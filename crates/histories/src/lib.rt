@@ -18,7 +18,7 @@ const LONGEST: u16 = 15;
 /// bit 0; and how many values were seen, held at 15.
 ///
 /// The fields may be any, and every lane has its answer: a number of values seen over 15 counts as 15.
-#[derive(Drop)]
+#[derive(Clone, Copy)]
 pub struct Lane {
     /// The last value.
     pub last: f64,
@@ -49,7 +49,7 @@ pub struct Lane {
 }
 
 /// What is answered to a value.
-#[derive(Drop)]
+#[derive(Clone, Copy)]
 pub enum Answer {
     /// The marks at it (0).
     Marks(u16),
@@ -58,7 +58,7 @@ pub enum Answer {
 }
 
 /// What taking a value gives.
-#[derive(Drop)]
+#[derive(Clone, Copy)]
 pub struct Taken {
     /// The marks at the value, or why it is refused.
     pub answer: Answer,

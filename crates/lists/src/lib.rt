@@ -24,7 +24,7 @@ pub const MOST_BYTES: usize = 400_000;
 pub const ALL_TESTS: u16 = 511;
 
 /// What a number of a list stands for.
-#[derive(Drop)]
+#[derive(Clone, Copy)]
 pub enum Item {
     Format,
     Cases,
@@ -49,7 +49,7 @@ pub enum Item {
 }
 
 /// Why bytes are no list.
-#[derive(Drop)]
+#[derive(Clone, Copy)]
 pub enum Why {
     /// The bytes end at the number or inside it.
     Cut,
@@ -68,7 +68,7 @@ pub enum Why {
 }
 
 /// Where and why bytes are no list. The place is that of the first byte of the number concerned.
-#[derive(Drop)]
+#[derive(Clone, Copy)]
 pub struct Fault {
     pub at: usize,
     pub item: Item,
@@ -76,63 +76,63 @@ pub struct Fault {
 }
 
 /// A number and the place just past it.
-#[derive(Drop)]
+#[derive(Clone, Copy)]
 pub struct Wide {
     pub value: u64,
     pub next: usize,
 }
 
 /// A number below 2^16 and the place just past it.
-#[derive(Drop)]
+#[derive(Clone, Copy)]
 pub struct Narrow {
     pub value: u16,
     pub next: usize,
 }
 
 /// A finite f64 and the place just past it.
-#[derive(Drop)]
+#[derive(Clone, Copy)]
 pub struct Real {
     pub value: f64,
     pub next: usize,
 }
 
 /// What reading a number finds.
-#[derive(Drop)]
+#[derive(Clone, Copy)]
 pub enum Number {
     Read(Wide),
     Fault(Fault),
 }
 
 /// What reading a number that has to lie within bounds finds.
-#[derive(Drop)]
+#[derive(Clone, Copy)]
 pub enum Small {
     Read(Narrow),
     Fault(Fault),
 }
 
 /// What reading an f64 finds.
-#[derive(Drop)]
+#[derive(Clone, Copy)]
 pub enum Float {
     Read(Real),
     Fault(Fault),
 }
 
 /// Where bytes that stand as they are begin, and the place just past them.
-#[derive(Drop)]
+#[derive(Clone, Copy)]
 pub struct Stretch {
     pub from: usize,
     pub to: usize,
 }
 
 /// What reading bytes that stand as they are finds.
-#[derive(Drop)]
+#[derive(Clone, Copy)]
 pub enum Bytes {
     Read(Stretch),
     Fault(Fault),
 }
 
 /// What reading several numbers finds: the place just past them, or the fault of the first that has one.
-#[derive(Drop)]
+#[derive(Clone, Copy)]
 pub enum Passed {
     Next(usize),
     Fault(Fault),

@@ -5,7 +5,7 @@ ghost use Rattle.lists.specs.Outcomes.{Compared, OnlyIf, stretch, differs};
 use crate::words::say;
 
 /// A place where two rows of bytes part, with what stands there.
-#[derive(Drop)]
+#[derive(Clone, Copy)]
 pub struct Parting {
     pub at: usize,
     pub ours: u64,
@@ -13,7 +13,7 @@ pub struct Parting {
 }
 
 /// What a case comes to.
-#[derive(Drop)]
+#[derive(Clone, Copy)]
 pub enum Outcome {
     /// All is as it ought to be.
     Same,

@@ -6,14 +6,14 @@ use crate::outcome::Outcome;
 use crate::{Fault, Number, Passed, closing, opening, outcome, words};
 
 /// What a case comes to and the place just past it; or why there is no case.
-#[derive(Drop)]
+#[derive(Clone, Copy)]
 pub enum Replayed {
     Case { outcome: Outcome, next: usize },
     Fault(Fault),
 }
 
 /// How far the replay of a list has come.
-#[derive(Drop)]
+#[derive(Clone, Copy)]
 pub struct Run {
     /// How many cases there are; none where the bytes are no list.
     pub cases: u64,

@@ -10,7 +10,7 @@ ghost use Rattle.points.specs.Points.{uppers, lowers, outs, zs, has_zs};
 ghost use Rattle.points.specs.Plotting.{plotted, any_shorter, plot_from, plot_number};
 
 /// What plotting answers.
-#[derive(Drop)]
+#[derive(Clone, Copy)]
 pub enum Plotted {
     /// The points stand at the front of the slices (0).
     Done,

@@ -6,7 +6,7 @@ use lists::{Fault, Item, Replayed, Small};
 
 // What adding leaves: the chart, the place just past the samples, and the place past the numbers that were answered; or
 // why there is a sample less.
-#[derive(Drop)]
+#[derive(Clone, Copy)]
 enum Added {
     All {
         chart: Chart,

@@ -1,7 +1,7 @@
 // A chart of either type. The calls of the attribute charts stand here alone.
 use attributes::{Centre, Evaluated, PChanged, PChart, UChanged, UChart};
 
-#[derive(Drop)]
+#[derive(Clone, Copy)]
 pub enum Chart {
     Parcels(PChart),
     Units(UChart),
@@ -9,7 +9,7 @@ pub enum Chart {
 
 /// A chart, and the number of what made or changed it. A refused one is as it was; where making is refused, it is a record
 /// that nothing of ours made.
-#[derive(Drop)]
+#[derive(Clone, Copy)]
 pub struct Changed {
     pub chart: Chart,
     pub number: u8,

@@ -11,7 +11,7 @@ pub const MOST_ROOM: u16 = 4100;
 pub const LEAST: f64 = 5.0e-324;
 
 /// A record, the lengths of the two slices beside it, and the place just past them.
-#[derive(Drop)]
+#[derive(Clone, Copy)]
 pub struct Head {
     pub centre: Centre,
     pub count: usize,
@@ -21,21 +21,21 @@ pub struct Head {
 }
 
 /// What reading a head finds.
-#[derive(Drop)]
+#[derive(Clone, Copy)]
 pub enum Headed {
     Read(Head),
     Fault(Fault),
 }
 
 /// A centre and the place just past it; or why there is none.
-#[derive(Drop)]
+#[derive(Clone, Copy)]
 pub enum Centred {
     Read { centre: Centre, next: usize },
     Fault(Fault),
 }
 
 /// A sample, its size as it stands in the list, and the place just past it; or why there is none.
-#[derive(Drop)]
+#[derive(Clone, Copy)]
 pub enum Sampled {
     Read { count: u64, size: u64, next: usize },
     Fault(Fault),

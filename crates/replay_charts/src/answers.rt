@@ -4,14 +4,14 @@ use evaluating::{Evaluated, Figure};
 use rules::Limits;
 
 /// A sigma figure: 01's number, and the figure where that is 0.
-#[derive(Drop)]
+#[derive(Clone, Copy)]
 pub struct Told {
     pub number: u8,
     pub value: f64,
 }
 
 /// The limits of both series, and the number of marks. All are zero where evaluating is refused.
-#[derive(Drop)]
+#[derive(Clone, Copy)]
 pub struct Found {
     pub main: Limits,
     pub dispersion: Limits,
@@ -19,7 +19,7 @@ pub struct Found {
 }
 
 /// What evaluating answers besides the slices, and both figures.
-#[derive(Drop)]
+#[derive(Clone, Copy)]
 pub struct Answers {
     pub number: u8,
     pub found: Found,

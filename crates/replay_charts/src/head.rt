@@ -12,7 +12,7 @@ const MOST_SAMPLES: u16 = 4096;
 const MOST_VALUES: u16 = 25;
 
 /// The chart, the number of its samples, and the place just past them.
-#[derive(Drop)]
+#[derive(Clone, Copy)]
 pub struct Head {
     pub kind: u16,
     pub size: u16,
@@ -21,7 +21,7 @@ pub struct Head {
     pub next: usize,
 }
 
-#[derive(Drop)]
+#[derive(Clone, Copy)]
 pub enum Headed {
     Read(Head),
     Fault(Fault),

@@ -41,28 +41,28 @@ const UNTOUCHED_MARKS: u16 = 0xffff;
 const UNTOUCHED_POINT: f64 = -12345.678;
 
 // A chart, and 01's number of the last call that refused to make or to fill it, 0 where none did.
-#[derive(Drop)]
+#[derive(Clone, Copy)]
 struct Made {
     chart: Chart,
     refused: u8,
 }
 
 // What a case says of its record's stops: nothing, or how many it counts.
-#[derive(Drop)]
+#[derive(Clone, Copy)]
 enum Counted {
     Unsaid,
     Stops(usize),
 }
 
 // A chart with its samples, and the place just past them; or why there are none.
-#[derive(Drop)]
+#[derive(Clone, Copy)]
 enum Filled {
     Chart { made: Made, next: usize },
     Fault(Fault),
 }
 
 // What evaluating ought to leave of the slices: so many entries of the answer, and behind them this point and these marks.
-#[derive(Drop)]
+#[derive(Clone, Copy)]
 struct Left {
     n: usize,
     d: usize,

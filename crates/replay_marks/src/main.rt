@@ -34,7 +34,7 @@ const UNTOUCHED: u16 = 0xffff;
 
 // How the series of a case is marked: `stopped`, with stops, and as a moving range or not; without stops it is none. `width` is
 // the width mode.
-#[derive(Drop)]
+#[derive(Clone, Copy)]
 struct Terms {
     stopped: bool,
     moving: bool,

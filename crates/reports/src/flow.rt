@@ -10,14 +10,14 @@ use rules::MOST;
 use sets::RuleSet;
 
 // What the numbers at the head come to: the chart and the place past them, or the number of a refusal.
-#[derive(Drop)]
+#[derive(Clone, Copy)]
 pub enum Head {
     Names { chart: Chart, next: usize },
     Halted(u8),
 }
 
 // What a flow file comes to: the chart, its values being read, or the number of a refusal.
-#[derive(Drop)]
+#[derive(Clone, Copy)]
 pub enum Flow {
     Read(Chart),
     Refused(u8),

@@ -19,7 +19,7 @@ use rules::SAME_WIDTHS;
 pub const LONGEST: usize = 405_704;
 
 /// What writing a report comes to.
-#[derive(Drop)]
+#[derive(Clone, Copy)]
 pub enum Reported {
     /// The report stands at the front of the room, so many bytes long (0).
     Text(usize),

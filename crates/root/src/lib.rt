@@ -4,7 +4,7 @@ ghost use Rattle.root.specs.Root.{Allowed, numbered, root_of};
 ghost use Rattle.root.specs.Steps.{infinity, Places, RootBits};
 
 /// What [`root`] answers.
-#[derive(Drop)]
+#[derive(Clone, Copy)]
 pub enum Rooted {
     /// The nearest f64 to the root: number 0 of document 01, "Numbers a call may give back".
     Root(f64),
@@ -63,7 +63,7 @@ fn digits(a: u64) -> u64
 }
 
 // A finite number above 0, times 4^591, is s * 2^(p + 55), with s of 53 binary digits and p from 1.
-#[derive(Drop)]
+#[derive(Clone, Copy)]
 struct Placed {
     s: u64,
     p: u64,

@@ -49,7 +49,7 @@ fn word(a: &[u8; 8]) -> u64
 
 // The next pair of the file; its end; or, where the file ends inside a pair, how many bytes of that
 // pair there are.
-#[derive(Drop)]
+#[derive(Clone, Copy)]
 enum Pair {
     Bits(u64, u64),
     End,
@@ -72,7 +72,7 @@ fn read_pair(fd: i32) -> Pair {
 
 // How many pairs were compared and how many of them differ, which pair is the first of those,
 // counted from 0, and how many bytes of a pair are left over at the end of the file.
-#[derive(Drop)]
+#[derive(Clone, Copy)]
 struct Tally {
     pairs: u64,
     differ: u64,

@@ -22,7 +22,7 @@ pub const SAME_WIDTHS: u64 = 0;
 pub const OWN_WIDTHS: u64 = 1;
 
 /// Control limits: the upper limit, the centre line, the lower limit.
-#[derive(Drop)]
+#[derive(Clone, Copy)]
 pub struct Limits {
     pub ucl: f64,
     pub cl: f64,
@@ -30,7 +30,7 @@ pub struct Limits {
 }
 
 // The zone widths: one and two sigma above the centre line, and below it.
-#[derive(Drop)]
+#[derive(Clone, Copy)]
 struct Widths {
     above1: f64,
     above2: f64,
@@ -39,7 +39,7 @@ struct Widths {
 }
 
 /// The lines that the tests compare with: the limits, and one and two sigma above and below the centre line.
-#[derive(Drop)]
+#[derive(Clone, Copy)]
 pub struct Lines {
     pub ucl: f64,
     pub cl: f64,
@@ -65,7 +65,7 @@ pub fn window(t: Test) -> usize
 }
 
 /// Why a series is not marked, checked or written, or a value not taken.
-#[derive(Drop)]
+#[derive(Clone, Copy)]
 pub enum Refusal {
     /// There are more than 4,096 values (5).
     TooMany,
@@ -82,7 +82,7 @@ pub enum Refusal {
 }
 
 /// What marking answers.
-#[derive(Drop)]
+#[derive(Clone, Copy)]
 pub enum Marked {
     /// The marks stand at the front of the slice (0).
     Done,

@@ -4,7 +4,7 @@ ghost use Rattle.sets.specs.Sets.{bit_of, test_at};
 ghost use Rattle.sets.specs.Calls.{number, chosen, contained, counted, with_test, without_test, has_test, how_many, same, set_named};
 
 /// A run test, in the order of 01's table.
-#[derive(Drop)]
+#[derive(Clone, Copy)]
 pub enum Test {
     BeyondLimits,
     NineOneSide,
@@ -19,13 +19,13 @@ pub enum Test {
 
 /// A rule set. Bit b of the mask is set where the set has the test of bit b. A mask over 511 is that of no set, and the calls
 /// refuse it (4).
-#[derive(Drop)]
+#[derive(Clone, Copy)]
 pub struct RuleSet {
     pub mask: u16,
 }
 
 /// What looking up a bit number finds.
-#[derive(Drop)]
+#[derive(Clone, Copy)]
 pub enum Found {
     /// The test of that bit.
     Test(Test),
@@ -34,7 +34,7 @@ pub enum Found {
 }
 
 /// Why a call is refused. The number is that of document 01, "Numbers a call may give back".
-#[derive(Drop)]
+#[derive(Clone, Copy)]
 pub enum Refusal {
     /// The mask is over 511 (4).
     TooLarge,
@@ -43,7 +43,7 @@ pub enum Refusal {
 }
 
 /// What finding a set by its name, or changing one, answers.
-#[derive(Drop)]
+#[derive(Clone, Copy)]
 pub enum Chosen {
     /// The set (0).
     Set(RuleSet),
@@ -52,7 +52,7 @@ pub enum Chosen {
 }
 
 /// Whether a set has a test.
-#[derive(Drop)]
+#[derive(Clone, Copy)]
 pub enum Contained {
     /// It has it, or not (0).
     Is(bool),
@@ -61,7 +61,7 @@ pub enum Contained {
 }
 
 /// How many tests a set has.
-#[derive(Drop)]
+#[derive(Clone, Copy)]
 pub enum Counted {
     /// So many (0).
     Tests(u32),

@@ -12,7 +12,7 @@ use rules::{Limits, MOST, Marked, Refusal};
 use sets::RuleSet;
 
 /// What checking a sheet finds.
-#[derive(Drop)]
+#[derive(Clone, Copy)]
 pub enum Checked {
     /// The sheet is the one of the series, the limits and the set (0).
     Accepted,
@@ -27,7 +27,7 @@ pub enum Checked {
 }
 
 /// What writing a sheet comes to.
-#[derive(Drop)]
+#[derive(Clone, Copy)]
 pub enum Written {
     /// The sheet stands at the front of the room, so many bytes long (0).
     Sheet(usize),

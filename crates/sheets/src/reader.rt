@@ -11,7 +11,7 @@ use rules::MOST;
 use sets::RuleSet;
 
 // The three numbers at the head of a sheet, and the place past them.
-#[derive(Drop)]
+#[derive(Clone, Copy)]
 pub enum Head {
     Names {
         points: usize,
@@ -26,7 +26,7 @@ pub enum Head {
 }
 
 // One marked point: how many unmarked ones are skipped before it, its marks, and the place past it.
-#[derive(Drop)]
+#[derive(Clone, Copy)]
 enum Entry {
     Whole {
         skip: usize,
@@ -40,7 +40,7 @@ enum Entry {
 }
 
 // How far reading has come: the first point that is not passed, the place in the bytes, and how many entries are left.
-#[derive(Drop)]
+#[derive(Clone, Copy)]
 struct Reach {
     point: usize,
     at: usize,
@@ -48,7 +48,7 @@ struct Reach {
 }
 
 // How the entries of a sheet came out.
-#[derive(Drop)]
+#[derive(Clone, Copy)]
 pub enum Entries {
     Whole,
     // The place of the number at fault, or of the first byte left over.

@@ -53,7 +53,7 @@ fn write_head(out: &mut [u8], points: u16, set: u16, marked: u16) -> usize
 }
 
 // How many points are marked, and how many bytes their entries take.
-#[derive(Drop)]
+#[derive(Clone, Copy)]
 struct Extent {
     marked: u16,
     len: usize,

@@ -9,7 +9,7 @@ use libc::{STDERR_FILENO, STDIN_FILENO, STDOUT_FILENO};
 use reports::{LONGEST, Reported};
 
 // What was read.
-#[derive(Drop)]
+#[derive(Clone, Copy)]
 enum Input {
     // So many bytes.
     Bytes(usize),
