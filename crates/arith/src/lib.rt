@@ -1,4 +1,6 @@
 // The arithmetic of the charts: sum and mean, largest and smallest, range, deviation, moving range (document 01, "The charts").
+#![tactic(auto)]
+
 ghost use Rattle.std.specs.Prelude.{◌≡◌, ◌-◌, slice_index_or};
 ghost use Rattle.std.specs.Float.{nan};
 ghost use Rattle.arith.specs.Arith.{sum_of, mean_of, larger, smaller, largest_of, smallest_of, range_of, squares_of, or_nan, deviation_of, sign_cleared, moving_of};

@@ -1,4 +1,6 @@
 // The attribute charts of damaged parcels: P, per parcel inspected, and U, per unit.
+#![tactic(auto)]
+
 mod checks;
 mod plots;
 mod proportions;

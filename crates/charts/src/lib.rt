@@ -1,4 +1,6 @@
 // The record of a chart of individuals, of means and ranges or of means and deviations, and the calls that make one and change one.
+#![tactic(auto)]
+
 mod lent;
 mod records;
 

@@ -1,4 +1,6 @@
 // Evaluating a chart, and the sigma figures.
+#![tactic(auto)]
+
 mod checked;
 mod checks;
 mod factors;

@@ -1,4 +1,6 @@
 // The window behind a mark.
+#![tactic(auto)]
+
 ghost use Rattle.std.specs.Prelude.{◌≡◌, ◌≤◌, length};
 ghost use Rattle.rules.specs.Terms.{under};
 ghost use Rattle.rules.specs.Tests.{window};

@@ -1,4 +1,6 @@
 // First-week limits: the limits of a chart of subgroups with the wild ones taken out, round by round.
+#![tactic(auto)]
+
 mod places;
 mod rounds;
 

@@ -1,4 +1,6 @@
 // What a pattern of 64 bits means as an f64, for every pattern, and whether values are finite.
+#![tactic(auto)]
+
 ghost use Rattle.std.specs.Prelude.{◌≡◌};
 ghost use Rattle.std.specs.Float.{binary64};
 ghost use Rattle.std.specs.Float.Ieee.{of_bits};

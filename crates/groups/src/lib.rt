@@ -1,4 +1,6 @@
 // Numbers in groups of seven bits: low group first, top bit set on all but the last group, shortest form.
+#![tactic(auto)]
+
 ghost use Rattle.std.specs.Prelude.{◌≡◌, ◌≤◌, length};
 ghost use Rattle.laws.specs.Front.{at_front_if_room, room_for};
 ghost use Rattle.groups.specs.Groups.{groups, number_at, found, written};

@@ -1,5 +1,7 @@
 // The second engine of marking: what it keeps of a lane's past are bits, and not values. It is given one value after the
 // other, as many as come.
+#![tactic(auto)]
+
 mod reading;
 
 ghost use Rattle.std.specs.Prelude.{◌≡◌, suc};

@@ -2,6 +2,8 @@
 // refused. Both width modes come in turn: the limits are symmetric to the bit, so the marks are those of mode 0. Writes how
 // many were taken and refused, how often each test was marked, and one number that all marks come to: `oracle/runs` has the
 // published Rust work them out.
+#![tactic(auto)]
+
 use histories::{Answer, Lane, Taken};
 use libc::STDOUT_FILENO;
 use rules::Limits;

@@ -1,5 +1,7 @@
 // Lists of cases with their right answers, in the form of oracle/FORMAT.md: reading what they hold, writing what is ours as
 // they have it, holding the one to the other case by case, and saying why bytes are no list.
+#![tactic(auto)]
+
 mod ours;
 mod outcome;
 mod run;

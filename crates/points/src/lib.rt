@@ -1,4 +1,6 @@
 // The points of an attribute chart about its centre: their limits, verdicts and standardized values, in lent slices.
+#![tactic(auto)]
+
 mod columns;
 mod point;
 mod zeros;

@@ -1,1 +1,2 @@
 // That each promise fixes its result: laws in proofs/, no code.
+#![tactic(auto)]

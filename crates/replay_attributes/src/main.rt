@@ -2,6 +2,8 @@
 // and holds its answers, its record and every entry of its slices byte for byte to what is stored. Writes a line for each
 // case that it finds otherwise, and last how many cases there are and how many of them differ; or, where the bytes are no
 // list, last a line that says at which byte and why.
+#![tactic(auto)]
+
 mod adding;
 mod answer;
 mod chart;

@@ -3,6 +3,8 @@
 // the entries past it to what they were, and where it is refused both figures to the same number, but for bad stops and a bad
 // mode. Writes a line for each case that it finds otherwise, and last how many cases there are and how many of them differ; or,
 // where the bytes are no list, last a line that says at which byte and why.
+#![tactic(auto)]
+
 mod answer;
 mod answers;
 mod head;

@@ -2,6 +2,8 @@
 // stops and in its width mode where it has any, all at once and then one by one, and holds either answer byte for byte and
 // the entries past the marks to what is stored. Writes a line for each case that it finds otherwise, and last how many cases
 // there are and how many of them differ; or, where the bytes are no list, last a line that says at which byte and why.
+#![tactic(auto)]
+
 mod answer;
 mod lanes;
 

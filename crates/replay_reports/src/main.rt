@@ -2,6 +2,8 @@
 // its length and every byte to what is stored, the bytes past it to what they were, and a room one byte too short to its
 // refusal. Writes a line for each case that it finds otherwise, and last how many cases there are and how many of them
 // differ; or, where the bytes are no list, last a line that says at which byte and why.
+#![tactic(auto)]
+
 ghost use Rattle.std.specs.Prelude.{◌≡◌, ◌≤◌, length};
 ghost use Rattle.lists.specs.Outcomes.{OnlyIf};
 

@@ -1,4 +1,6 @@
 // The report of a flow file: its bytes are read as a chart and its values, and the evaluation is told in lines of text.
+#![tactic(auto)]
+
 mod flow;
 mod text;
 

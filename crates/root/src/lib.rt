@@ -1,4 +1,6 @@
 // The square root of an f64, rounded to the nearest f64 (document 01, "The charts").
+#![tactic(auto)]
+
 ghost use Rattle.std.specs.Prelude.{◌≡◌, ◌+◌, ◌*◌, ◌^◌, ◌<◌, ◌≤◌};
 ghost use Rattle.root.specs.Root.{Allowed, numbered, root_of};
 ghost use Rattle.root.specs.Steps.{infinity, Places, RootBits};

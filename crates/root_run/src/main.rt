@@ -1,6 +1,8 @@
 // Runs `root::root` on stored bit patterns, and counts where its answer differs from the stored
 // one. The file holds pairs of u64, low byte first: the bits of a number, and those of its root as
 // the processor's own instruction gave it, or every bit set where the root is refused.
+#![tactic(auto)]
+
 ghost use Rattle.std.specs.Prelude.{◌≡◌, ◌+◌, ◌*◌, ◌^◌, ◌≤◌, ◌<◌};
 ghost use Rattle.std.specs.Float.{binary64};
 ghost use Rattle.std.specs.Float.Ieee.{of_bits};

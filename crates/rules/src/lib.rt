@@ -1,4 +1,6 @@
 // The nine tests on a series: what a mark means, and marking.
+#![tactic(auto)]
+
 mod codes;
 mod cuts;
 

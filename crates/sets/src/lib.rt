@@ -1,4 +1,6 @@
 // The nine run tests by name, and the rule set: which of them are applied.
+#![tactic(auto)]
+
 ghost use Rattle.std.specs.Prelude.{◌≡◌, ◌^◌};
 ghost use Rattle.sets.specs.Sets.{bit_of, test_at};
 ghost use Rattle.sets.specs.Calls.{number, chosen, contained, counted, with_test, without_test, has_test, how_many, same, set_named};

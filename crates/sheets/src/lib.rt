@@ -1,4 +1,6 @@
 // The mark sheet: a list of a series' marks in bytes, its writer, and its checker, which accepts the one true list only.
+#![tactic(auto)]
+
 mod checker;
 mod reader;
 mod writer;

@@ -2,6 +2,8 @@
 // accepted, and refused with any one byte changed, cut at any place, or with any byte more; and the longest sheet. Writes how
 // often the checker gave each number, and one number that all answers come to, with their places and marks: `oracle/runs`
 // works it out from 01 and 02 by itself.
+#![tactic(auto)]
+
 ghost use Rattle.std.specs.Prelude.{◌<◌, ◌≤◌, length};
 
 use libc::STDOUT_FILENO;

@@ -1,5 +1,7 @@
 // The report program: reads a flow file from standard input and writes its report to standard output. Where either
 // cannot be done it says so in a line on standard error, which stands in for the status that a program cannot have here.
+#![tactic(auto)]
+
 ghost use Rattle.std.specs.Prelude.{◌≤◌, ◌≡◌, length};
 ghost use Rattle.laws.specs.Front.{at_front};
 ghost use Rattle.reports.specs.Report.{text_of};

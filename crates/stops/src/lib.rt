@@ -1,4 +1,6 @@
 // Stops on the belt: which lists of positions are stops of a series, and where they cut it.
+#![tactic(auto)]
+
 ghost use Rattle.std.specs.Prelude.{◌≡◌, leb};
 ghost use Rattle.stops.specs.Stops.{cut_at, since, stops_wrong, main_points};
 ghost use Rattle.stops.specs.Cuts.{by_stop, nearer};

@@ -1,0 +1,30 @@
+-- `arith::largest_of` meets its contract: what is left to look at, from the largest so far, gives the largest of all. Assumes nothing.
+use Rattle.std.proofs.Common.{◌≡◌, ◌-◌, length, drop, arith, rules}
+use mathlib.Core.List.{foldl}
+use lib.Ieee.{nan}
+use Rattle.arith.specs.Arith.{larger, largest_of}
+use Rattle.arith.proofs.Folds.{fold_more, fold_done}
+use Rattle.arith.proofs.largest_of.Goals as goal
+
+pub loop-i-init : goal.loop-i-init
+loop-i-init c =
+    rw c.first-t.ensures
+
+pub overflow_add-i : goal.overflow_add-i
+overflow_add-i c =
+    omega arith
+
+pub loop-i-smaller : goal.loop-i-smaller
+loop-i-smaller c =
+    omega arith
+
+pub loop-i-preserved : goal.loop-i-preserved
+loop-i-preserved c =
+    let larger-of = c.larger_of-t in
+    let loop-test = c.loop-i-test in
+    let loop = c.loop-i in
+    rw larger-of.ensures (fold_more larger nan _ _ _ loop-test.true loop.invariant)
+
+pub returns : goal.returns
+returns c =
+    fold_done larger nan _ _ _ c.loop-i-test.false c.loop-i.invariant

@@ -1,0 +1,27 @@
+-- `arith::squares` meets its contract, as `arith::sum` does. Assumes nothing.
+use Rattle.std.proofs.Common.{◌≡◌, ◌-◌, length, drop, refl, arith, rules}
+use mathlib.Core.List.{foldl}
+use lib.Ieee.{nan}
+use Rattle.arith.specs.Arith.{square_added, squares_of}
+use Rattle.arith.proofs.Folds.{fold_more, fold_done}
+use Rattle.arith.proofs.squares.Goals as goal
+
+pub loop-i-init : goal.loop-i-init
+loop-i-init c =
+    refl
+
+pub overflow_add-i : goal.overflow_add-i
+overflow_add-i c =
+    omega arith
+
+pub loop-i-smaller : goal.loop-i-smaller
+loop-i-smaller c =
+    omega arith
+
+pub loop-i-preserved : goal.loop-i-preserved
+loop-i-preserved c =
+    fold_more (square_added _) nan _ _ _ c.loop-i-test.true c.loop-i.invariant
+
+pub returns : goal.returns
+returns c =
+    fold_done (square_added _) nan _ _ _ c.loop-i-test.false c.loop-i.invariant

@@ -1,0 +1,20 @@
+-- `PChart::with_centre` meets its contract, by its test. Assumes nothing.
+use Rattle.std.proofs.Common.{sym, ◌∙◌, rules}
+use Rattle.laws.proofs.Bools.{told-not}
+use Rattle.laws.proofs.Refusals.{passed, refused, none-applies}
+use Rattle.attributes.specs.Records.{with_centre_p}
+use Rattle.attributes.proofs.PChart.with_centre.Goals as goal
+
+pub returns-then-not-allowed : goal.returns-then-not-allowed
+unfolding with_centre_p
+returns-then-not-allowed c =
+    let if1 = c.if-not-allowed in
+    let allowed = c.allowed in
+    sym (refused _ _ _ _ (told-not allowed.ensures if1.true))
+
+pub returns : goal.returns
+unfolding with_centre_p
+returns c =
+    let if1 = c.if-not-allowed in
+    let allowed = c.allowed in
+    sym (passed _ _ _ _ (told-not allowed.ensures if1.false) ∙ none-applies _)

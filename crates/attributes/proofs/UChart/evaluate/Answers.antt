@@ -1,0 +1,106 @@
+-- `UChart::evaluate` meets its contract: refused ahead of the arithmetic, or as the points are. Assumes nothing.
+use Rattle.std.proofs.Common.{◌≡◌, Bool, false, length, take, sym, ap, ◌∙◌, ap₂, arith, length-take-le, rules}
+use Rattle.laws.specs.Refusals.{first_of}
+use Rattle.laws.proofs.Bools.{told}
+use Rattle.floats.specs.Values.{plus_zero}
+use Rattle.points.proofs.Plotting.{Room, has_room}
+use Rattle.attributes.specs.Evaluating.{wrong_u, plot_u, evaluate_u}
+use Rattle.attributes.specs.Steps.{tested, ahead}
+use Rattle.attributes.proofs.Held.{held-U, counts-fit-U, Ahead, were-ahead}
+use Rattle.attributes.proofs.Outcomes.{answer-refused, slice-refused, finished}
+use Rattle.attributes.proofs.UChart.evaluate.Goals.{In-Passed}
+use Rattle.attributes.proofs.UChart.evaluate.Goals as goal
+
+-- what the tests leave once they are passed: the record is right, and the slices have room
+passed : (c : In-Passed) → Ahead c.wrong-wrong.result c.args.self.count c.too_short-short.result
+passed c =
+    were-ahead c.wrong-wrong.result c.args.self.count c.too_short-short.result
+    (sym c.check.ensures ∙ ap tested c.enum_told-1.given.1)
+
+record-right : (c : In-Passed) → let args = c.args in wrong_u args.self args.counts.now args.sizes.now ≡ false
+record-right c =
+    told c.wrong-wrong.ensures (passed c).right
+
+room : (c : In-Passed)
+    → let args = c.args in
+    Room args.self.count (length args.values.now) (length args.ucl.now) (length args.lcl.now) (length args.out.now)
+    (length args.z.now) (length args.has-z.now)
+room c =
+    has_room _ _ _ _ _ _ _ (told c.too_short-short.ensures (passed c).room)
+
+pub centre-cl-requires : goal.centre-cl-requires
+centre-cl-requires c =
+    record-right c
+
+pub fill_sizes-requires : goal.fill_sizes-requires
+fill_sizes-requires c =
+    ((held-U _ _ _ (record-right (goal.at.fill_sizes-requires c).In-Passed)).in-sizes, (room (goal.at.fill_sizes-requires c).In-Passed).in-ucl)
+
+pub evaluate-requires : goal.evaluate-requires
+evaluate-requires c =
+    let fill-sizes = c.fill_sizes in
+    let h = held-U _ _ _ (record-right (goal.at.evaluate-requires c).In-Passed) in
+    let r = room (goal.at.evaluate-requires c).In-Passed in
+    (h.in-counts, r.in-values, omega (arith, r.in-ucl, fill-sizes.auto.1.1.0), r.in-lcl, r.in-out, r.in-z, r.in-has-z, counts-fit-U _ _ _ (record-right (goal.at.evaluate-requires c).In-Passed))
+
+pub returns-in-Refused : goal.returns-in-Refused
+unfolding evaluate_u
+returns-in-Refused c =
+    let why = c.why-1 in
+    let check = c.check in
+    let too_short = c.too_short-short in
+    let wrong = c.wrong-wrong in
+    let args = c.args in
+    let n = args.self.count in
+    let g = plot_u args.self args.counts.now args.sizes.now in
+    let is = why.given.1 in
+    let found = check.ensures ∙ ap₂ (λ (w s : Bool). first_of (ahead w n s) 0) wrong.ensures too_short.ensures in (
+      answer-refused _ n _ g is found _,
+      (slice-refused _ n _ g is found plus_zero _ _, (slice-refused _ n _ g is found plus_zero _ _, (slice-refused _ n _ g is found plus_zero _ _, (slice-refused _ n _ g is found false _ _, (slice-refused _ n _ g is found plus_zero _ _, slice-refused _ n _ g is found false _ _))))),
+    )
+
+pub shape_of-values : goal.shape_of-values
+shape_of-values c =
+    let evaluate = c.evaluate in
+    evaluate.auto.1.1.1.1.0
+
+pub shape_of-ucl : goal.shape_of-ucl
+shape_of-ucl c =
+    let evaluate = c.evaluate in
+    let fill-sizes = c.fill_sizes in
+    evaluate.auto.1.1.1.1.1.0 ∙ fill-sizes.auto.1.1.0
+
+pub shape_of-lcl : goal.shape_of-lcl
+shape_of-lcl c =
+    let evaluate = c.evaluate in
+    evaluate.auto.1.1.1.1.1.1.0
+
+pub shape_of-out : goal.shape_of-out
+shape_of-out c =
+    let evaluate = c.evaluate in
+    evaluate.auto.1.1.1.1.1.1.1.0
+
+pub shape_of-z : goal.shape_of-z
+shape_of-z c =
+    let evaluate = c.evaluate in
+    evaluate.auto.1.1.1.1.1.1.1.1.0
+
+pub shape_of-has_z : goal.shape_of-has_z
+shape_of-has_z c =
+    let evaluate = c.evaluate in
+    evaluate.auto.1.1.1.1.1.1.1.1.1.0
+
+pub returns-in-Passed : goal.returns-in-Passed
+unfolding evaluate_u plot_u
+returns-in-Passed c =
+    let evaluate = c.evaluate in
+    let fill-sizes = c.fill_sizes in
+    let centre = c.centre-cl in
+    let args = c.args in
+    let n = args.self.count in
+    let none = sym c.check.ensures ∙ ap tested c.enum_told-1.given.1 in
+    let is = ap₂ (λ (w s : Bool). first_of (ahead w n s) 0) c.wrong-wrong.ensures c.too_short-short.ensures in
+    let long = length-take-le n args.sizes.now (held-U _ _ _ (record-right (goal.at.returns-in-Passed c).In-Passed)).in-sizes in
+    finished args.counts.now n (take n args.sizes.now) args.ucl.now long (room (goal.at.returns-in-Passed c).In-Passed).in-ucl
+    fill-sizes.ensures centre.ensures centre.ensures
+    _ n _ args.values.now args.lcl.now args.out.now args.z.now args.has-z.now (sym is ∙ none) evaluate.ensures

@@ -1,0 +1,52 @@
+-- `plots::fill_values` meets its contract: the entries are written one after the other. Assumes nothing.
+use Rattle.std.proofs.Common.{ℕ, ◌-◌, List, get_or, refl, ap, ◌∙◌, arith, rules}
+use lib.Ieee.{Float, nan, binary64, div}
+use Rattle.laws.specs.Front.{at_front}
+use Rattle.laws.proofs.Lists.{tabulate-front}
+use Rattle.laws.proofs.Filling.{Tabling, tabling-starts, tabling-length, tabling-room, tabling-goes-on, tabling-ends}
+use Rattle.floats.specs.Values.{whole}
+use Rattle.attributes.proofs.plots.fill_values.Goals as goal
+
+pub loop-i-init : goal.loop-i-init
+loop-i-init c =
+    tabling-starts _ _ _ c.requires.2
+
+pub overflow_cast-out : goal.overflow_cast-out
+overflow_cast-out c =
+    let loop-test = c.loop-i-test in
+    let loop = c.loop-i in
+    let pre = c.requires in
+    omega (arith, pre.3 loop.i loop-test.true)
+
+pub offset_bounds-out-i : goal.offset_bounds-out-i
+offset_bounds-out-i c =
+    let loop-test = c.loop-i-test in
+    let loop = c.loop-i in
+    omega (arith, tabling-room _ _ _ _ _ loop.invariant loop-test.true)
+
+pub bounds-out-i : goal.bounds-out-i
+bounds-out-i c =
+    let loop-test = c.loop-i-test in
+    let loop = c.loop-i in
+    tabling-room _ _ _ _ _ loop.invariant loop-test.true
+
+pub loop-i-preserved : goal.loop-i-preserved
+loop-i-preserved c =
+    let loop-test = c.loop-i-test in
+    let loop = c.loop-i in
+    tabling-goes-on _ _ _ _ _ loop.invariant _ loop-test.true refl
+
+pub shape_of-out : goal.shape_of-out
+shape_of-out c =
+    tabling-length _ _ _ _ _ c.loop-i.invariant
+
+pub returns : goal.returns
+returns c =
+    let loop-test = c.loop-i-test in
+    let loop = c.loop-i in
+    let args = c.args in
+    let pre = c.requires in
+    let counts = args.counts.now in
+    let f : ℕ → Float → Float = λ i x. div binary64 (whole (get_or counts i 0)) x in
+    tabling-ends _ _ _ _ _ loop.invariant loop-test.false
+    ∙ ap (λ (l : List Float). at_front l args.out.now) (tabulate-front f args.sizes.now args.n nan pre.1)

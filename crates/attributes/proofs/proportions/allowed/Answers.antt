@@ -1,0 +1,12 @@
+-- `proportions::allowed` meets its contract. Assumes nothing.
+use Rattle.std.proofs.Common.{Bool, ◌&&◌, ap, rules}
+use lib.Ieee.{of_bits, round, lt}
+use Rattle.floats.specs.Values.{plus_zero, decimal}
+use Rattle.attributes.proofs.proportions.allowed.Goals as goal
+
+pub returns : goal.returns
+unfolding of_bits round
+returns c =
+    let is_finite = c.is_finite in
+    let args = c.args in
+    ap (λ (b : Bool). b && lt plus_zero args.p && lt args.p (decimal 1 10)) is_finite.ensures

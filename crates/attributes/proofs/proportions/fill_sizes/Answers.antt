@@ -1,0 +1,44 @@
+-- `proportions::fill_sizes` meets its contract: the entries are written one after the other. Assumes nothing.
+use Rattle.std.proofs.Common.{◌-◌, get_or, refl, arith, rules}
+use Rattle.laws.proofs.Filling.{Tabling, tabling-starts, tabling-length, tabling-room, tabling-goes-on, tabling-ends}
+use Rattle.floats.specs.Values.{whole}
+use Rattle.attributes.proofs.proportions.fill_sizes.Goals as goal
+
+pub loop-i-init : goal.loop-i-init
+loop-i-init c =
+    tabling-starts _ _ _ c.requires.1
+
+pub overflow_cast-out : goal.overflow_cast-out
+overflow_cast-out c =
+    let loop-test = c.loop-i-test in
+    let loop = c.loop-i in
+    let pre = c.requires in
+    omega (arith, pre.2 loop.i loop-test.true)
+
+pub offset_bounds-out-i : goal.offset_bounds-out-i
+offset_bounds-out-i c =
+    let loop-test = c.loop-i-test in
+    let loop = c.loop-i in
+    omega (arith, tabling-room _ _ _ _ _ loop.invariant loop-test.true)
+
+pub bounds-out-i : goal.bounds-out-i
+bounds-out-i c =
+    let loop-test = c.loop-i-test in
+    let loop = c.loop-i in
+    tabling-room _ _ _ _ _ loop.invariant loop-test.true
+
+pub loop-i-preserved : goal.loop-i-preserved
+loop-i-preserved c =
+    let loop-test = c.loop-i-test in
+    let loop = c.loop-i in
+    tabling-goes-on _ _ _ _ _ loop.invariant _ loop-test.true refl
+
+pub shape_of-out : goal.shape_of-out
+shape_of-out c =
+    tabling-length _ _ _ _ _ c.loop-i.invariant
+
+pub returns : goal.returns
+returns c =
+    let loop-test = c.loop-i-test in
+    let loop = c.loop-i in
+    tabling-ends _ _ _ _ _ loop.invariant loop-test.false

@@ -1,0 +1,13 @@
+-- `proportions::fill_sizes` meets its contract: the entries are written one after the other. Assumes nothing.
+use Rattle.std.proofs.Common.{◌-◌, get_or, refl, arith, rules}
+use Rattle.laws.proofs.Filling.{Tabling, tabling-starts, tabling-length, tabling-room, tabling-goes-on, tabling-ends}
+use Rattle.floats.specs.Values.{whole}
+use Rattle.attributes.proofs.proportions.fill_sizes.Given as goal
+
+abbrev pub invariant-loop-i : goal.invariant-loop-i
+invariant-loop-i l =
+    Tabling (λ k. whole (get_or l.sizes k 0)) l.n l.initial.out l.out l.i
+
+abbrev pub decreases-loop-i : goal.decreases-loop-i
+decreases-loop-i l =
+    l.n - l.i

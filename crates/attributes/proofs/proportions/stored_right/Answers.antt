@@ -1,0 +1,26 @@
+-- `proportions::stored_right` meets its contract: what was seen and the rest together say what the whole says. Assumes nothing.
+use Rattle.std.proofs.Common.{◌-◌, ◌^◌, ltb, get_or, sym, ◌∙◌, rules}
+use lib.Dec.{leb-suc-suc}
+use Rattle.laws.proofs.Judged.{Judged, judged-starts, judged-all}
+use Rattle.attributes.specs.Records.{sample_p}
+use Rattle.attributes.specs.Evaluating.{right, stored_right_p}
+use Rattle.attributes.proofs.Samples.{judged-bits}
+use Rattle.attributes.proofs.proportions.stored_right.Goals as goal
+
+pub loop-i-init : goal.loop-i-init
+loop-i-init c =
+    judged-starts _ _
+
+pub loop-i-preserved : goal.loop-i-preserved
+loop-i-preserved c =
+    let excess = c.excess-bits in
+    let loop-test = c.loop-i-test in
+    let loop = c.loop-i in
+    judged-bits _ _ _ loop.bits excess.result loop.invariant loop-test.true excess.ensures
+
+pub returns : goal.returns
+unfolding stored_right_p
+returns c =
+    let loop-test = c.loop-i-test in
+    let loop = c.loop-i in
+    sym (leb-suc-suc loop.bits 4294967295) ∙ judged-all _ _ _ _ loop.invariant loop-test.false

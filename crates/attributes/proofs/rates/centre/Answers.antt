@@ -1,0 +1,43 @@
+-- `rates::centre` meets its contract: each centre in its turn. Assumes nothing.
+use Rattle.std.proofs.Common.{ℕ, take, ap, ◌∙◌, ap₂, rules}
+use native.Mathlib.Nat.{sub-zero}
+use lib.Ieee.{binary64, div}
+use Rattle.floats.specs.Values.{whole}
+use Rattle.arith.specs.Arith.{sum_of}
+use Rattle.attributes.specs.Evaluating.{total_of, centre_u}
+use Rattle.attributes.proofs.Held.{held-U, small-counts-U, computed-centre, given-centre}
+use Rattle.attributes.proofs.Totalling.{small-part}
+use Rattle.attributes.proofs.rates.centre.Goals as goal
+
+pub slice_bounds-total-end : goal.slice_bounds-total-end
+slice_bounds-total-end c =
+    (held-U _ _ _ c.requires).in-counts
+
+pub total-damaged-requires : goal.total-damaged-requires
+total-damaged-requires c =
+    let pre = c.requires in
+    let args = c.args in
+    let h = held-U _ _ _ (pre) in
+    small-part args.c.count args.counts.now h.few h.in-counts (small-counts-U _ _ _ (pre))
+
+pub slice_bounds-sum_of-end : goal.slice_bounds-sum_of-end
+slice_bounds-sum_of-end c =
+    (held-U _ _ _ c.requires).in-sizes
+
+pub returns-in-Given : goal.returns-in-Given
+unfolding centre_u
+returns-in-Given c =
+    given-centre _ _ _ c.centre-1.given.1
+
+pub returns-in-Computed : goal.returns-in-Computed
+unfolding centre_u
+returns-in-Computed c =
+    let nearest-u64-to-f64 = c.nearest_u64_to_f64 in
+    let sum_of = c.sum_of-units in
+    let total = c.total-damaged in
+    let enum_told = c.enum_told-1 in
+    let args = c.args in
+    ap₂ (div binary64)
+    (nearest-u64-to-f64.ensures ∙ ap whole (total.ensures ∙ ap (λ (k : ℕ). total_of (take k args.counts.now)) (sub-zero args.c.count)))
+    (sum_of.ensures ∙ ap (λ (k : ℕ). sum_of (take k args.sizes.now)) (sub-zero args.c.count))
+    ∙ computed-centre _ _ enum_told.given.1

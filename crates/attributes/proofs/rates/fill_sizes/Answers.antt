@@ -1,0 +1,45 @@
+-- `rates::fill_sizes` meets its contract: the entries are written one after the other. Assumes nothing.
+use Rattle.std.proofs.Common.{◌-◌, length, take, sym, arith, length-take-le, get_or-take, rules}
+use lib.Ieee.{nan}
+use Rattle.laws.proofs.Filling.{Filling, filling-starts, filling-length, filling-goes-on, filling-ends}
+use Rattle.attributes.proofs.rates.fill_sizes.Goals as goal
+
+pub loop-i-init : goal.loop-i-init
+loop-i-init c =
+    let pre = c.requires in
+    let args = c.args in
+    filling-starts _ _ (omega (arith, pre, length-take-le args.n args.sizes.now pre.0))
+
+pub offset_bounds-out-i : goal.offset_bounds-out-i
+offset_bounds-out-i c =
+    let loop-test = c.loop-i-test in
+    let loop = c.loop-i in
+    let pre = c.requires in
+    omega (arith, pre, filling-length _ _ _ _ loop.invariant, loop-test.true)
+
+pub bounds-out-i : goal.bounds-out-i
+bounds-out-i c =
+    let loop-test = c.loop-i-test in
+    let loop = c.loop-i in
+    let pre = c.requires in
+    omega (arith, pre, filling-length _ _ _ _ loop.invariant, loop-test.true)
+
+pub loop-i-preserved : goal.loop-i-preserved
+loop-i-preserved c =
+    let loop-test = c.loop-i-test in
+    let loop = c.loop-i in
+    let args = c.args in
+    let pre = c.requires in
+    filling-goes-on _ _ _ _ loop.invariant nan _ (omega (arith, loop-test.true, length-take-le args.n args.sizes.now pre.0)) (sym (get_or-take args.n args.sizes.now loop.i nan loop-test.true))
+
+pub shape_of-out : goal.shape_of-out
+shape_of-out c =
+    filling-length _ _ _ _ c.loop-i.invariant
+
+pub returns : goal.returns
+returns c =
+    let loop-test = c.loop-i-test in
+    let loop = c.loop-i in
+    let args = c.args in
+    let pre = c.requires in
+    filling-ends _ _ _ _ loop.invariant (omega (arith, loop-test.false, length-take-le args.n args.sizes.now pre.0))

@@ -1,0 +1,37 @@
+-- `Chart::new` meets its contract: its tests are those of the definition, in the same order. Assumes nothing.
+use mathlib.Core.Path.{◌≡◌, sym, ap, ◌∙◌}
+use mathlib.Core.Bool.{true}
+use Prim.Native.Nat.{ℕ}
+use native.Mathlib.Omega.{arith}
+use Rattle.laws.proofs.Bools.{told}
+use Rattle.laws.proofs.Refusals.{passed, refused, none-applies}
+use Rattle.charts.specs.Records.{kind_wrong, new_of}
+use borrow.Author.Rules.{rules}
+use Rattle.charts.proofs.Chart.new.Goals as goal
+
+pub returns-then-kind_wrong : goal.returns-then-kind_wrong
+unfolding new_of
+returns-then-kind_wrong c =
+    let wrong : kind_wrong c.args.kind ≡ true = search (rules, told) in
+    sym (refused _ _ _ _ wrong)
+
+pub returns-then-size_wrong : goal.returns-then-size_wrong
+unfolding new_of
+returns-then-size_wrong c =
+    let if2 = c.if-size_wrong in
+    let size-wrong = c.size_wrong in
+    let if1 = c.if-kind_wrong in
+    let kind-wrong = c.kind_wrong in
+    sym (passed _ _ _ _ (told kind-wrong.ensures if1.false) ∙ refused _ _ _ _ (told size-wrong.ensures if2.true))
+
+-- The set is known by its mask alone, whichever function gives it: so a wrong one fails by its number.
+pub returns : goal.returns
+unfolding new_of
+returns c =
+    let if2 = c.if-size_wrong in
+    let size-wrong = c.size_wrong in
+    let if1 = c.if-kind_wrong in
+    let kind-wrong = c.kind_wrong in
+    let args = c.args in
+    ap (λ (m : ℕ). (0, record { kind = args.kind; size = args.size; count = 0; set = record { mask = m }; stops = 0 })) (omega arith)
+    ∙ sym (passed _ _ _ _ (told kind-wrong.ensures if1.false) ∙ passed _ _ _ _ (told size-wrong.ensures if2.false) ∙ none-applies _)

@@ -1,0 +1,15 @@
+-- `Evaluated::none_stands` meets its contract: each answer in its turn. Assumes nothing.
+use Rattle.std.proofs.Common.{ℕ, eqb, sym, ap, ◌∙◌, rules}
+use Rattle.evaluating.specs.declared.Evaluated.{Evaluated}
+use Rattle.evaluating.specs.Evaluating.{evaluated}
+use Rattle.evaluating.proofs.Evaluated.none_stands.Goals as goal
+
+pub returns-in-Done : goal.returns-in-Done
+returns-in-Done c =
+    sym (ap (λ (e : Evaluated). (evaluated e).none_stands) c.self-1.given.1)
+
+pub returns-in-Refused : goal.returns-in-Refused
+returns-in-Refused c =
+    let number = c.number in
+    let self2 = c.self-in-Refused-1 in
+    ap (λ (n : ℕ). eqb n 8) number.ensures ∙ sym (ap (λ (e : Evaluated). (evaluated e).none_stands) self2.given.1)

@@ -1,0 +1,10 @@
+-- `factors::factor` meets its contract: the table is the definition's, entry by entry. Assumes nothing.
+use Rattle.std.proofs.Common.{refl, rules, le-ltb}
+use lib.Ieee.{of_bits, round}
+use Rattle.evaluating.specs.Factors.{factor_of}
+use Rattle.evaluating.proofs.factors.factor.Goals as goal
+
+pub returns : goal.returns
+unfolding factor_of of_bits round
+returns c =
+    let args = c.args in rw (le-ltb args.size 2 c.requires.1) refl

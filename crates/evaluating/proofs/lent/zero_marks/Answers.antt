@@ -1,0 +1,30 @@
+-- `lent::zero_marks` meets its contract: the slice is filled with zero. Assumes nothing.
+use Rattle.std.proofs.Common.{◌-◌, length, arith, rules}
+use Rattle.laws.proofs.OneValue.{OneValue, one-value-starts, one-value-length, one-value-goes-on, one-value-ends}
+use Rattle.evaluating.proofs.lent.zero_marks.Goals as goal
+
+pub loop-i-init : goal.loop-i-init
+loop-i-init c =
+    one-value-starts 0 c.args.out.now
+
+pub overflow_add-i : goal.overflow_add-i
+overflow_add-i c =
+    omega arith
+
+pub loop-i-smaller : goal.loop-i-smaller
+loop-i-smaller c =
+    let loop-test = c.loop-i-test in
+    let loop = c.loop-i in
+    omega (arith, one-value-length _ _ _ _ loop.invariant, one-value-goes-on _ _ _ _ loop.invariant loop-test.true)
+
+pub loop-i-preserved : goal.loop-i-preserved
+loop-i-preserved c =
+    one-value-goes-on _ _ _ _ c.loop-i.invariant c.loop-i-test.true
+
+pub shape_of-out : goal.shape_of-out
+shape_of-out c =
+    one-value-length _ _ _ _ c.loop-i.invariant
+
+pub returns : goal.returns
+returns c =
+    one-value-ends _ _ _ _ c.loop-i.invariant c.loop-i-test.false

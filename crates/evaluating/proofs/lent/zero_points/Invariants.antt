@@ -1,0 +1,13 @@
+-- `lent::zero_points` meets its contract: the slice is filled with zero. Assumes nothing.
+use Rattle.std.proofs.Common.{◌-◌, length, arith, rules}
+use Rattle.laws.proofs.OneValue.{OneValue, one-value-starts, one-value-length, one-value-goes-on, one-value-ends}
+use Rattle.floats.specs.Values.{plus_zero}
+use Rattle.evaluating.proofs.lent.zero_points.Given as goal
+
+abbrev pub invariant-loop-i : goal.invariant-loop-i
+invariant-loop-i l =
+    OneValue plus_zero l.initial.out l.out l.i
+
+abbrev pub decreases-loop-i : goal.decreases-loop-i
+decreases-loop-i l =
+    length l.initial.out - l.i

@@ -1,0 +1,50 @@
+-- `series::fill` meets its contract. The points are written one after the other. Assumes nothing.
+use Rattle.std.proofs.Common.{◌-◌, arith, rules}
+use Rattle.laws.proofs.Filling.{Tabling, tabling-starts, tabling-length, tabling-room, tabling-goes-on, tabling-ends}
+use Rattle.evaluating.specs.Asked.{asked}
+use Rattle.evaluating.specs.Series.{point_at, points_in, series_of}
+use Rattle.evaluating.proofs.series.fill.Goals as goal
+
+pub loop-i-init : goal.loop-i-init
+loop-i-init c =
+    let args = c.args in
+    let pre = c.requires in
+    tabling-starts (point_at (asked args.c args.values.now) args.series) (points_in args.c args.series) args.out.now pre.2
+
+pub point-requires : goal.point-requires
+point-requires c =
+    let loop-test = c.loop-i-test in
+    let points-in = c.points_in-n in
+    let pre = c.requires in
+    (pre.0, pre.1, omega (arith, points-in.ensures, loop-test.true))
+
+pub offset_bounds-out-i : goal.offset_bounds-out-i
+offset_bounds-out-i c =
+    let loop-test = c.loop-i-test in
+    let loop = c.loop-i in
+    let points-in = c.points_in-n in
+    omega (arith, tabling-room _ _ _ _ _ loop.invariant (omega (arith, points-in.ensures, loop-test.true)))
+
+pub bounds-out-i : goal.bounds-out-i
+bounds-out-i c =
+    let loop-test = c.loop-i-test in
+    let loop = c.loop-i in
+    let points-in = c.points_in-n in
+    tabling-room _ _ _ _ _ loop.invariant (omega (arith, points-in.ensures, loop-test.true))
+
+pub loop-i-preserved : goal.loop-i-preserved
+loop-i-preserved c =
+    let point = c.point in
+    let loop-test = c.loop-i-test in
+    let loop = c.loop-i in
+    let points-in = c.points_in-n in
+    tabling-goes-on _ _ _ _ _ loop.invariant point.result (omega (arith, points-in.ensures, loop-test.true)) point.ensures
+
+pub shape_of-out : goal.shape_of-out
+shape_of-out c =
+    tabling-length _ _ _ _ _ c.loop-i.invariant
+
+pub returns : goal.returns
+unfolding series_of
+returns c =
+    tabling-ends _ _ _ _ _ c.loop-i.invariant (omega (arith, c.points_in-n.ensures, c.loop-i-test.false))

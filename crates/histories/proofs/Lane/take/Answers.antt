@@ -1,0 +1,53 @@
+-- `histories::Lane::take` meets its contract: its tests are marking's, in the same order. Assumes nothing.
+use mathlib.Core.Path.{◌≡◌, sym, ap, ◌∙◌}
+use mathlib.Core.Bool.{true, false}
+use Prim.Native.Nat.{ℕ}
+use native.Mathlib.Nat.{min-le_right}
+use borrow.Author.Tests.{not-true, not-false}
+use Rattle.floats.specs.Finite.{finite}
+use Rattle.rules.specs.declared.Lines.{Lines}
+use Rattle.rules.specs.Finite.{finite_limits}
+use Rattle.histories.specs.Lanes.{after}
+use Rattle.histories.specs.Taking.{marked}
+use Rattle.histories.proofs.Answers.{set-refused, mode-refused, limits-refused, value-refused, value_taken}
+use borrow.Author.Rules.{rules}
+use Rattle.histories.proofs.Lane.take.Goals as goal
+
+pub returns-then-set-gt-ALL : goal.returns-then-set-gt-ALL
+returns-then-set-gt-ALL c =
+    let a = c.args in
+    c.refuse.ensures ∙ sym (set-refused a.limits a.width a.set.mask a.self a.value c.if-set-gt-ALL.true)
+
+pub returns-then-width-gt-OWN_WIDTHS : goal.returns-then-width-gt-OWN_WIDTHS
+returns-then-width-gt-OWN_WIDTHS c =
+    let a = c.args in
+    c.refuse-then-width-gt-OWN_WIDTHS.ensures ∙ sym (mode-refused a.limits a.width a.set.mask a.self a.value c.if-set-gt-ALL.false c.if-width-gt-OWN_WIDTHS.true)
+
+pub returns-then-not-sound : goal.returns-then-not-sound
+returns-then-not-sound c =
+    let a = c.args in
+    let unsound : finite_limits a.limits ≡ false = sym c.finite_limits-sound.ensures ∙ not-true _ c.if-not-sound.true in
+    c.refuse-then-not-sound.ensures
+    ∙ sym (limits-refused a.limits a.width a.set.mask a.self a.value c.if-set-gt-ALL.false c.if-width-gt-OWN_WIDTHS.false unsound)
+
+pub returns-then-not-is_finite : goal.returns-then-not-is_finite
+returns-then-not-is_finite c =
+    let a = c.args in
+    let sound : finite_limits a.limits ≡ true = sym c.finite_limits-sound.ensures ∙ not-false _ c.if-not-sound.false in
+    let unsound : finite a.value ≡ false = sym c.is_finite.ensures ∙ not-true _ c.if-not-is_finite.true in
+    c.refuse-then-not-is_finite.ensures
+    ∙ sym (value-refused a.limits a.width a.set.mask a.self a.value c.if-set-gt-ALL.false c.if-width-gt-OWN_WIDTHS.false sound unsound)
+
+pub marks-marks-requires : goal.marks-marks-requires
+unfolding after
+marks-marks-requires c =
+    rw c.after-lane.ensures (min-le_right _ 15)
+
+pub returns : goal.returns
+returns c =
+    let a = c.args in
+    let sound : finite_limits a.limits ≡ true = sym c.finite_limits-sound.ensures ∙ not-false _ c.if-not-sound.false in
+    let is : finite a.value ≡ true = sym c.is_finite.ensures ∙ not-false _ c.if-not-is_finite.false in
+    ap (λ (m : ℕ). (0, m, c.after-lane.result)) c.marks-marks.ensures
+    ∙ ap (marked a.set.mask) (c.after-lane.ensures ∙ ap (λ (l : Lines). after l a.self a.value) c.lines_of.ensures)
+    ∙ sym (value_taken a.limits a.width a.set.mask a.self a.value c.if-set-gt-ALL.false c.if-width-gt-OWN_WIDTHS.false sound is)

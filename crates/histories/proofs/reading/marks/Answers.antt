@@ -1,0 +1,8 @@
+-- `histories::reading::marks` meets its contract: the tests that stand, of the set, whose window fits. Assumes nothing.
+use Rattle.histories.proofs.Marks.{marks-read}
+use borrow.Author.Rules.{rules}
+use Rattle.histories.proofs.reading.marks.Goals as goal
+
+pub returns : goal.returns
+returns c =
+    let a = c.args in rw c.standing.ensures (marks-read a.set a.lane c.requires)

@@ -1,0 +1,48 @@
+-- `lists::read_floats` meets its contract: its loop reads a row. Assumes nothing.
+use mathlib.Core.Path.{sym, ap, ◌∙◌}
+use Prim.Native.Nat.{◌-◌}
+use native.Mathlib.Omega.{arith}
+use borrow.Author.Rules.{rules}
+use lib.ListN.{length}
+use Rattle.lists.specs.Found.{of_float}
+use Rattle.lists.specs.Reading.{float_from}
+use Rattle.lists.proofs.Rows.{Reads, reads-starts, reads-length, reads-goes-on, reads-stops, reads-ends}
+use Rattle.lists.proofs.read_floats.Goals as goal
+
+pub loop-i-init : goal.loop-i-init
+loop-i-init c =
+    reads-starts (float_from _ _) _ _
+
+pub offset_bounds-out-i : goal.offset_bounds-out-i
+offset_bounds-out-i c =
+    omega (arith, reads-length c.loop-i.invariant)
+
+pub shape_of-out-in-Fault : goal.shape_of-out-in-Fault
+shape_of-out-in-Fault c =
+    reads-length c.loop-i.invariant
+
+pub returns-in-Fault : goal.returns-in-Fault
+returns-in-Fault c =
+    reads-stops c.loop-i.invariant c.loop-i-test.true
+    (sym c.read_float.ensures ∙ ap of_float c.fault-1.given.1)
+
+pub overflow_add-i : goal.overflow_add-i
+overflow_add-i c =
+    omega (arith, reads-length c.loop-i.invariant)
+
+pub loop-i-smaller : goal.loop-i-smaller
+loop-i-smaller c =
+    omega (arith, reads-length c.loop-i.invariant)
+
+pub loop-i-preserved : goal.loop-i-preserved
+loop-i-preserved c =
+    reads-goes-on c.loop-i.invariant c.loop-i-test.true
+    (sym c.read_float.ensures ∙ ap of_float c.read-1.given.1)
+
+pub shape_of-out : goal.shape_of-out
+shape_of-out c =
+    reads-length c.loop-i.invariant
+
+pub returns : goal.returns
+returns c =
+    reads-ends c.loop-i.invariant c.loop-i-test.false

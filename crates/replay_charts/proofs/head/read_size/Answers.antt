@@ -1,0 +1,24 @@
+-- `head::read_size` meets its contract: 1 is at most 25. Assumes nothing.
+use mathlib.Core.Path.{◌∙◌}
+use native.Mathlib.Omega.{arith}
+use Rattle.lists.specs.declared.Small.{Small}
+use Rattle.lists.specs.declared.Small.TheVariants.{Read, Fault}
+use Rattle.lists.specs.Taken.{AtMost}
+use borrow.Author.Rules.{rules}
+use borrow.Author.Tests.{eq-eqb, ne_eqb}
+use Rattle.replay_charts.specs.Head.{size_from}
+use Rattle.replay_charts.proofs.head.read_size.Goals as goal
+
+at-most-more : (r : Small) → AtMost 1 r → AtMost 25 r
+at-most-more (Read number) h = omega (arith, h)
+at-most-more (Fault fault) h = tt
+
+pub returns-then-kind-eq1 : goal.returns-then-kind-eq1
+unfolding size_from
+returns-then-kind-eq1 c =
+    (c.read_small.ensures.0 ∙ simp (eq-eqb _ _ c.if-kind-eq1.true), at-most-more c.read_small.result c.read_small.ensures.1)
+
+pub returns : goal.returns
+unfolding size_from
+returns c =
+    (c.read_small-2.ensures.0 ∙ simp (ne_eqb _ _ c.if-kind-eq1.false), c.read_small-2.ensures.1)

@@ -1,0 +1,18 @@
+-- `judge` is safe: the slices keep their lengths. Assumes nothing.
+use mathlib.Core.Path.{◌≡◌}
+use Prim.Native.Nat.{ℕ, ◌≤◌}
+use native.Mathlib.Omega.{arith}
+use borrow.Author.Rules.{rules}
+use Rattle.replay_charts.proofs.judge.Goals as goal
+
+still : {m n a b : ℕ} → m ≤ n → n ≤ b → a ≡ b → m ≤ a
+still h k e = omega (arith, h, k, e)
+
+pub hold-requires : goal.hold-requires
+hold-requires c =
+    let p = c.before.before.before.before.before.before.before.before.before.before.before.before.before.before.before.before.before.before.before.before.before.before.before.before.before.requires in
+    let l = c.left_by-left.ensures in
+    let k = c.Answers-of.auto.1.1.1 in (
+      (still l.0 p.0.0 k.1.0, still l.1 p.0.1 k.1.1.0),
+      (still l.0 p.1.0 k.1.1.1.0, still l.1 p.1.1 k.1.1.1.1.0),
+    )

@@ -1,0 +1,13 @@
+-- `refused_alike` meets its contract. Assumes nothing.
+use mathlib.Core.Path.{refl}
+use borrow.Author.Tests.{eq-eqb, ne_eqb}
+use borrow.Author.Rules.{rules}
+use Rattle.replay_charts.proofs.refused_alike.Goals as goal
+
+pub returns-then-number-eq0 : goal.returns-then-number-eq0
+returns-then-number-eq0 c =
+    rw (eq-eqb _ _ c.if-number-eq0.true)
+
+pub returns : goal.returns
+returns c =
+    rw (ne_eqb _ _ c.if-number-eq0.false, ← c.apart.ensures) refl

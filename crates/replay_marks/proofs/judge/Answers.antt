@@ -1,0 +1,7 @@
+-- `judge` meets its contract. Assumes nothing.
+use borrow.Author.Rules.{rules}
+use Rattle.replay_marks.proofs.judge.Goals as goal
+
+pub returns : goal.returns
+returns c =
+    rw (← c.mark.ensures.0, ← c.number-number.ensures) c.hold.ensures

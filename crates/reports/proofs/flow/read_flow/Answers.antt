@@ -1,0 +1,47 @@
+-- `flow::read_flow` meets its contract: the length, the head, the values. Assumes nothing.
+use mathlib.Core.Path.{ap, subst, ◌∙◌}
+use native.Mathlib.Omega.{arith}
+use borrow.Author.Tests.{lt-ltb, le-ltb}
+use lib.ListN.{length}
+use Rattle.reports.specs.Flow.{flow_of}
+use Rattle.reports.specs.Steps.{after_head, LegalHead}
+use borrow.Author.Rules.{rules}
+use Rattle.reports.proofs.flow.read_flow.Goals as goal
+
+pub returns-then-s-gt24576 : goal.returns-then-s-gt24576
+unfolding flow_of
+returns-then-s-gt24576 c =
+    (simp (lt-ltb 24576 (length c.args.s.now) c.if-s-gt24576.true), tt)
+
+pub read_values-requires : goal.read_values-requires
+read_values-requires c =
+    let told = subst LegalHead c.chart-1.given.1 c.read_head.ensures.1 in
+    (omega (arith, told.few, c.requires), told)
+
+pub returns-in-Halted : goal.returns-in-Halted
+unfolding flow_of
+returns-in-Halted c =
+    let args = c.args in
+    let if1 = c.if-s-gt24576 in
+    let read_head = c.read_head in (
+      simp (le-ltb 24576 (length args.s.now) if1.false)
+          (read_head.ensures.0 ∙ ap (after_head args.s.now) c.why-1.given.1),
+      tt,
+    )
+
+pub shape_of-values : goal.shape_of-values
+shape_of-values c =
+    c.read_values.auto.1.1.1.0
+
+pub returns-in-Names : goal.returns-in-Names
+unfolding flow_of
+returns-in-Names c =
+    let args = c.args in
+    let if1 = c.if-s-gt24576 in
+    let read_head = c.read_head in
+    let chart = c.chart-1 in
+    let read-values = c.read_values in (
+      simp (le-ltb 24576 (length args.s.now) if1.false)
+          (read_head.ensures.0 ∙ ap (after_head args.s.now) chart.given.1 ∙ read-values.ensures.0),
+      read-values.ensures.1,
+    )

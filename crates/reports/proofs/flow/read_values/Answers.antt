@@ -1,0 +1,89 @@
+-- `flow::read_values` meets its contract: its loop reads the values one by one. Assumes nothing.
+use mathlib.Core.Path.{sym, ◌∙◌}
+use Prim.Native.Nat.{◌-◌}
+use native.Mathlib.Omega.{arith}
+use Rattle.charts.proofs.Held.{own}
+use Rattle.reports.specs.Steps.{size}
+use Rattle.reports.proofs.Values.{Reads, reads-starts, reads-fault, reads-goes-on, reads_more, reads-ends}
+use borrow.Author.Rules.{rules}
+use Rattle.reports.proofs.flow.read_values.Goals as goal
+
+pub overflow_mul-n : goal.overflow_mul-n
+overflow_mul-n c =
+    omega (arith, (own c.args.chart c.requires.1.own).all)
+
+pub loop-i-init : goal.loop-i-init
+loop-i-init c =
+    let args = c.args in
+    reads-starts args.s.now args.chart (size args.chart) args.from args.values.now
+
+pub shape_of-values-in_default : goal.shape_of-values-in_default
+shape_of-values-in_default c =
+    c.loop-i.invariant.same
+
+pub returns-in_default : goal.returns-in_default
+returns-in_default c =
+    let args = c.args in
+    let loop = c.loop-i in (
+      reads-fault args.s.now args.chart (size args.chart) args.from args.values.now loop.values loop.at loop.i loop.invariant
+          c.loop-i-test.true _ (sym c.read_number.ensures ∙ c.enum_told-1.given.1),
+      tt,
+    )
+
+pub offset_bounds-values-i : goal.offset_bounds-values-i
+offset_bounds-values-i c =
+    omega (arith, c.loop-i.invariant.same)
+
+pub bounds-values-i : goal.bounds-values-i
+bounds-values-i c =
+    let pre = c.requires in
+    let loop = c.loop-i in
+    let loop-test = c.loop-i-test in
+    omega (arith, loop.invariant.same, loop-test.true, pre.0)
+
+pub overflow_add-i : goal.overflow_add-i
+overflow_add-i c =
+    omega arith
+
+pub loop-i-smaller : goal.loop-i-smaller
+loop-i-smaller c =
+    omega arith
+
+pub loop-i-preserved : goal.loop-i-preserved
+loop-i-preserved c =
+    let pre = c.requires in
+    let loop-test = c.loop-i-test in
+    let read_number = c.read_number in
+    let value = c.value-1 in
+    let args = c.args in
+    let loop = c.loop-i in
+    rw c.of_bits.ensures
+    (reads-goes-on args.s.now args.chart (size args.chart) args.from args.values.now loop.values loop.at loop.i loop.invariant
+    loop-test.true _ _ (sym read_number.ensures ∙ value.given.1) pre.0)
+
+pub shape_of-values-then-at-s : goal.shape_of-values-then-at-s
+shape_of-values-then-at-s c =
+    c.loop-i.invariant.same
+
+pub returns-then-at-s : goal.returns-then-at-s
+returns-then-at-s c =
+    let args = c.args in
+    let loop = c.loop-i in (
+      reads_more args.s.now args.chart (size args.chart) args.from args.values.now loop.values loop.at loop.i loop.invariant
+          c.loop-i-test.false c.if-at-s.true,
+      tt,
+    )
+
+pub shape_of-values : goal.shape_of-values
+shape_of-values c =
+    c.loop-i.invariant.same
+
+pub returns : goal.returns
+returns c =
+    let pre = c.requires in
+    let args = c.args in
+    let loop = c.loop-i in (
+      reads-ends args.s.now args.chart (size args.chart) args.from args.values.now loop.values loop.at loop.i loop.invariant
+          c.loop-i-test.false c.if-at-s.false,
+      pre.1,
+    )

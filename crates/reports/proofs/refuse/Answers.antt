@@ -1,0 +1,17 @@
+-- `refuse` meets its contract: the line is counted, and then written. Assumes nothing.
+use Rattle.reports.specs.Text.{r_line}
+use Rattle.reports.proofs.Telling.{told-short, told-whole}
+use borrow.Author.Rules.{rules}
+use Rattle.reports.proofs.refuse.Goals as goal
+
+pub returns-then-out-n : goal.returns-then-out-n
+returns-then-out-n c =
+    let args = c.args in
+    told-short (r_line args.why) args.out.now _ _ c.put_refusal-n.ensures c.if-out-n.true
+
+pub returns : goal.returns
+returns c =
+    let args = c.args in
+    let put-refusal = c.put_refusal-n in
+    let if1 = c.if-out-n in
+    told-whole (r_line args.why) args.out.now _ _ put-refusal.ensures if1.false _ _ c.put_refusal.ensures

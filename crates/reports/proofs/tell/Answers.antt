@@ -1,0 +1,39 @@
+-- `tell` meets its contract: the text is counted, and then written. Assumes nothing.
+use mathlib.Core.Path.{ap}
+use mathlib.Core.List.{List}
+use Prim.Native.Nat.{ℕ}
+use Rattle.reports.specs.Report.{first_index}
+use Rattle.reports.specs.TextSteps.{text_by}
+use Rattle.reports.proofs.Putting.{put_as}
+use Rattle.reports.proofs.Telling.{told-short, told-whole}
+use borrow.Author.Rules.{rules}
+use Rattle.reports.proofs.tell.Goals as goal
+
+-- the text, told the index of the second series' first point
+abbrev text : tie.Start → ℕ → List ℕ
+text c first = text_by c.args.chart c.args.e first c.args.marks.now c.args.others.now
+
+pub put_chart-n-requires : goal.put_chart-n-requires
+put_chart-n-requires c =
+    rw c.first_index-first.ensures.0 c.requires
+
+pub returns-then-out-n : goal.returns-then-out-n
+returns-then-out-n c =
+    let first-index = c.first_index-first in
+    let is = ap (text (goal.at.returns-then-out-n c).Start) first-index.ensures.0 in
+    told-short (text (goal.at.returns-then-out-n c).Start (first_index c.args.chart)) c.args.out.now _ _ (put_as is c.put_chart-n.ensures) c.if-out-n.true
+
+pub put_chart-requires : goal.put_chart-requires
+put_chart-requires c =
+    let pre = c.requires in
+    let first-index = c.first_index-first in
+    rw first-index.ensures.0 pre
+
+pub returns : goal.returns
+returns c =
+    let first-index = c.first_index-first in
+    let put-chart = c.put_chart-n in
+    let if1 = c.if-out-n in
+    let is = ap (text (goal.at.returns c).Start) first-index.ensures.0 in
+    told-whole (text (goal.at.returns c).Start (first_index c.args.chart)) c.args.out.now _ _ (put_as is put-chart.ensures) if1.false _ _
+    (put_as is c.put_chart.ensures)

@@ -1,0 +1,22 @@
+-- `text::put_limits` meets its contract: the series, and the patterns of the limits. Assumes nothing.
+use Rattle.reports.proofs.Limits.{limits-no-nan, limits-line}
+use Rattle.reports.proofs.Putting.{put_as}
+use borrow.Author.Rules.{rules}
+use Rattle.reports.proofs.text.put_limits.Goals as goal
+
+pub float_to_bits-numbers : goal.float_to_bits-numbers
+float_to_bits-numbers c =
+    (limits-no-nan c.args.limits c.requires).0
+
+pub float_to_bits-numbers-2 : goal.float_to_bits-numbers-2
+float_to_bits-numbers-2 c =
+    (limits-no-nan c.args.limits c.requires).1
+
+pub float_to_bits-numbers-3 : goal.float_to_bits-numbers-3
+float_to_bits-numbers-3 c =
+    (limits-no-nan c.args.limits c.requires).2
+
+pub returns : goal.returns
+returns c =
+    let args = c.args in
+    put_as (limits-line args.series args.limits) c.put_line.ensures

@@ -1,0 +1,36 @@
+-- `text::put_line` meets its contract: the words from i on are to come. Assumes nothing.
+use Prim.Native.Nat.{◌-◌}
+use mathlib.Core.Path.{refl, ◌∙◌}
+use lib.ListN.{length}
+use Rattle.reports.proofs.Putting.{Coming, put_both, coming-starts, coming-same, coming-on, coming-last, coming-length}
+use Rattle.reports.proofs.Words.{words_left, words-next, words_last}
+use borrow.Author.Rules.{rules}
+use Rattle.reports.proofs.text.put_line.Goals as goal
+
+pub loop-i-init : goal.loop-i-init
+loop-i-init c =
+    coming-starts refl
+
+pub loop-i-preserved : goal.loop-i-preserved
+loop-i-preserved c =
+    let loop-test = c.loop-i-test in
+    let put-byte2 = c.put_byte-word in
+    let args = c.args in
+    let loop = c.loop-i in
+    coming-on (coming-on loop.invariant (words-next args.decimals args.xs.now loop.i loop-test.true) put-byte2.ensures)
+    refl c.put_number-to.ensures
+
+pub shape_of-out : goal.shape_of-out
+shape_of-out c =
+    let put_byte = c.put_byte-to in
+    let loop = c.loop-i in
+    c.put_byte.auto.0 ∙ coming-length loop.invariant ∙ put_byte.auto.0
+
+pub returns : goal.returns
+returns c =
+    let put_byte = c.put_byte-to in
+    let loop-test = c.loop-i-test in
+    let args = c.args in
+    let loop = c.loop-i in
+    let last = coming-same loop.invariant (words_last args.decimals args.xs.now loop.i loop-test.false) in
+    put_both put_byte.ensures (coming-last last c.put_byte.ensures)

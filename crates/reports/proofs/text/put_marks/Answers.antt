@@ -1,0 +1,37 @@
+-- `text::put_marks` meets its contract: the lines of the points from i on are to come. Assumes nothing.
+use Prim.Native.Nat.{◌-◌}
+use mathlib.Core.Path.{sym, ap}
+use lib.ListN.{length}
+use Rattle.reports.specs.Text.{v_lines, listed}
+use Rattle.reports.proofs.Marks.{listed_from, listed-all, point-lines, point-off, lines_end}
+use Rattle.reports.proofs.Putting.{Coming, coming-starts, coming-same, coming-on, coming-ends, coming-length}
+use borrow.Author.Rules.{rules}
+use Rattle.reports.proofs.text.put_marks.Goals as goal
+
+pub loop-i-init : goal.loop-i-init
+loop-i-init c =
+    let args = c.args in
+    coming-starts (sym (ap v_lines (listed-all args.series args.first args.marks.now)))
+
+pub loop-i-preserved-then-m-eq0 : goal.loop-i-preserved-then-m-eq0
+loop-i-preserved-then-m-eq0 c =
+    let args = c.args in
+    let loop = c.loop-i in
+    coming-same loop.invariant
+    (ap v_lines (point-off args.series args.first args.marks.now loop.i c.loop-i-test.true c.if-m-eq0.true))
+
+pub loop-i-preserved : goal.loop-i-preserved
+loop-i-preserved c =
+    let loop-test = c.loop-i-test in
+    let args = c.args in
+    let loop = c.loop-i in
+    coming-on loop.invariant (point-lines args.series args.first args.marks.now loop.i loop-test.true) c.put_point-to.ensures
+
+pub shape_of-out : goal.shape_of-out
+shape_of-out c =
+    coming-length c.loop-i.invariant
+
+pub returns : goal.returns
+returns c =
+    let args = c.args in
+    coming-ends c.loop-i.invariant (lines_end args.series args.first args.marks.now c.loop-i.i c.loop-i-test.false)

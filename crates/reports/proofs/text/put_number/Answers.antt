@@ -1,0 +1,21 @@
+-- `text::put_number` meets its contract. Assumes nothing.
+use Prim.Native.Nat.{ℕ}
+use mathlib.Core.Path.{ap, ◌∙◌}
+use Rattle.reports.specs.Text.{digits}
+use Rattle.reports.proofs.Putting.{put_as}
+use Rattle.reports.proofs.Words.{word-hex, word-decimal}
+use borrow.Author.Rules.{rules}
+use Rattle.reports.proofs.text.put_number.Goals as goal
+
+pub returns-then-hex : goal.returns-then-hex
+returns-then-hex c =
+    let if1 = c.if-hex in
+    let args = c.args in
+    put_as (word-hex args.hex args.x if1.true) c.put_digits.ensures
+
+pub returns : goal.returns
+returns c =
+    let if1 = c.if-hex in
+    let args = c.args in
+    let k = c.decimal_len in
+    put_as (ap (λ (n : ℕ). digits 10 n args.x) k.ensures ∙ word-decimal args.hex args.x if1.false) c.put_digits-2.ensures

@@ -1,0 +1,38 @@
+-- `text::put_point` meets its contract: the lines of the tests from t on are to come. Assumes nothing.
+use Prim.Native.Nat.{◌-◌}
+use mathlib.Core.Path.{refl, sym, ◌∙◌}
+use Rattle.reports.specs.Text.{v_lines}
+use Rattle.reports.proofs.Marks.{marks_from, lines-on, lines-off, lines-done}
+use Rattle.reports.proofs.Putting.{Coming, coming-starts, coming-same, coming-on, coming-ends, coming-length}
+use borrow.Author.Rules.{rules}
+use Rattle.reports.proofs.text.put_point.Goals as goal
+
+pub loop-t-init : goal.loop-t-init
+loop-t-init c =
+    coming-starts refl
+
+pub loop-t-preserved-then-has_bit : goal.loop-t-preserved-then-has_bit
+loop-t-preserved-then-has_bit c =
+    let loop-test = c.loop-t-test in
+    let has-bit = c.has_bit in
+    let if1 = c.if-has_bit in
+    let args = c.args in
+    let loop = c.loop-t in
+    coming-on loop.invariant
+    (lines-on args.series args.index args.m loop.t loop-test.true (sym has-bit.ensures ∙ if1.true)) c.put_line-to.ensures
+
+pub loop-t-preserved : goal.loop-t-preserved
+loop-t-preserved c =
+    let args = c.args in
+    let loop = c.loop-t in
+    coming-same loop.invariant
+    (lines-off args.series args.index args.m loop.t c.loop-t-test.true (sym c.has_bit.ensures ∙ c.if-has_bit.false))
+
+pub shape_of-out : goal.shape_of-out
+shape_of-out c =
+    coming-length c.loop-t.invariant
+
+pub returns : goal.returns
+returns c =
+    let args = c.args in
+    coming-ends c.loop-t.invariant (lines-done args.series args.index args.m c.loop-t.t c.loop-t-test.false)

@@ -1,0 +1,11 @@
+-- `text::put_refusal` meets its contract. Assumes nothing.
+use mathlib.Core.Path.{refl}
+use Rattle.reports.specs.TextSteps.{words_from}
+use Rattle.reports.proofs.Putting.{put_as}
+use borrow.Author.Rules.{rules}
+use Rattle.reports.proofs.text.put_refusal.Goals as goal
+
+pub returns : goal.returns
+unfolding words_from
+returns c =
+    put_as refl c.put_line.ensures

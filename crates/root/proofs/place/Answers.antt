@@ -1,0 +1,42 @@
+-- `root::place` meets its contract: each arm is a law of `Steps.antt`. Assumes nothing.
+use Rattle.std.proofs.Common.{◌≡◌, ◌/◌, ◌^◌, ◌<◌, ◌≤◌, arith, rules}
+use Rattle.root.proofs.Steps.{count, count-in, places-subnormal, places-normal}
+use Rattle.root.proofs.place.Goals.{Then-field-eq0}
+use Rattle.root.proofs.place.Goals as goal
+
+-- the exponent's field of a subnormal is 0
+low : (c : Then-field-eq0) → c.args.b / 2 ^ 52 ≡ 0
+low c =
+    omega (arith, c.if-field-eq0.true, c.requires.1)
+
+zeros : (c : Then-field-eq0) → (11 ≤ count c.args.b) × (count c.args.b < 64)
+zeros c =
+    count-in c.args.b c.requires.0 (low c)
+
+pub overflow_sub-up : goal.overflow_sub-up
+overflow_sub-up c =
+    omega (arith, zeros c)
+
+pub overflow_cast-result : goal.overflow_cast-result
+overflow_cast-result c =
+    omega (arith, zeros c)
+
+pub overflow_shl-result : goal.overflow_shl-result
+overflow_shl-result c =
+    omega (arith, zeros c)
+
+pub overflow_cast-result-then-field-eq0 : goal.overflow_cast-result-then-field-eq0
+overflow_cast-result-then-field-eq0 c =
+    omega (arith, zeros c)
+
+pub overflow_sub-result : goal.overflow_sub-result
+overflow_sub-result c =
+    omega (arith, zeros c)
+
+pub returns-then-field-eq0 : goal.returns-then-field-eq0
+returns-then-field-eq0 c =
+    places-subnormal c.args.b c.requires.0 (low c)
+
+pub returns-else-field-eq0 : goal.returns-else-field-eq0
+returns-else-field-eq0 c =
+    places-normal c.args.b (omega (arith, c.if-field-eq0.false)) c.requires.1

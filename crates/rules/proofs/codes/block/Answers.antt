@@ -1,0 +1,22 @@
+-- `rules::codes::block` meets its contract: the codes are made, the marks read off them, and those that do not fit taken away. Assumes
+-- nothing.
+use mathlib.Core.Path.{refl}
+use Prim.Native.Nat.{◌-◌}
+use native.Mathlib.Omega.{arith}
+use borrow.Author.Rules.{rules}
+use Rattle.rules.proofs.Making.{lent-clear}
+use Rattle.rules.proofs.Marks.{codes-there, block-marks}
+use Rattle.rules.proofs.codes.block.Goals as goal
+
+pub codes-requires : goal.codes-requires
+codes-requires c =
+    (search rules, search rules, lent-clear _ _ c.requires.5)
+
+pub returns : goal.returns
+returns c =
+    let k = c.least.ensures in
+    let s = made.before.before.before.before.before in
+    let vs = s.args.values.now in
+    let there = codes-there s.args.set s.args.l vs s.args.c.now _ (14 - s.args.p) (omega arith) c.codes.ensures in
+    block-marks s.args.set s.args.l vs s.args.p _ s.requires.0 there _ _ _ _ _ refl k.1 (omega (arith, k.0)) k.2
+    c.read_marks.ensures c.fit.ensures

@@ -1,0 +1,11 @@
+-- `rules::codes::codes` meets its contract: the codes of few values are those of the values padded. Assumes nothing.
+use native.Mathlib.Omega.{arith}
+use borrow.Author.Rules.{rules}
+use Rattle.rules.proofs.Making.{codes-padded}
+use Rattle.rules.proofs.codes.codes.Goals as goal
+
+pub returns-then-values-lt16 : goal.returns-then-values-lt16
+returns-then-values-lt16 c =
+    let s = c.before.before.before.before.before.before.before.before.before.before.before.args in
+    let pad = c.pad in
+    codes-padded s.set s.l s.values.now _ _ _ (omega arith) pad.ensures.1 pad.ensures.0 c.families.ensures

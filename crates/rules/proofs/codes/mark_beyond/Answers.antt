@@ -1,0 +1,36 @@
+-- `rules::codes::mark_beyond` meets its contract. The marks are written one after the other. Assumes nothing.
+use Prim.Native.Nat.{◌-◌}
+use native.Mathlib.Omega.{arith}
+use borrow.Author.Rules.{rules}
+use lib.ListN.{length}
+use Rattle.laws.proofs.Filling.{Tabling, tabling-starts, tabling-length, tabling-room, tabling-goes-on, tabling-ends}
+use Rattle.stops.specs.Cuts.{unbroken}
+use Rattle.rules.specs.Marking.{marks_at}
+use Rattle.rules.proofs.Single.{marks-single}
+use Rattle.rules.proofs.codes.mark_beyond.Goals as goal
+
+pub loop-i-preserved : goal.loop-i-preserved
+loop-i-preserved c =
+    let at = c.loop-i in
+    tabling-goes-on _ _ _ _ _ at.invariant _ c.loop-i-test.true
+    (marks-single c.args.l c.args.set c.args.values.now at.i c.requires.0)
+
+pub loop-i-init : goal.loop-i-init
+loop-i-init c =
+    tabling-starts _ _ _ c.requires.1
+
+pub offset_bounds-out-i : goal.offset_bounds-out-i
+offset_bounds-out-i c =
+    omega (arith, tabling-room _ _ _ _ _ c.loop-i.invariant c.loop-i-test.true)
+
+pub bounds-out-i : goal.bounds-out-i
+bounds-out-i c =
+    tabling-room _ _ _ _ _ c.loop-i.invariant c.loop-i-test.true
+
+pub shape_of-out : goal.shape_of-out
+shape_of-out c =
+    tabling-length _ _ _ _ _ c.loop-i.invariant
+
+pub returns : goal.returns
+returns c =
+    tabling-ends _ _ _ _ _ c.loop-i.invariant c.loop-i-test.false

@@ -1,0 +1,21 @@
+-- `rules::codes::mark_many` meets its contract: each block brings the next marks. Assumes nothing.
+use mathlib.Core.Path.{◌≡◌, ap, ◌∙◌}
+use Prim.Native.Nat.{◌+◌, ◌-◌, ◌≤◌}
+use native.Mathlib.Omega.{arith}
+use borrow.Author.Rules.{rules}
+use lib.ListN.{length}
+use Rattle.laws.proofs.Filling.{Tabling, tabling-starts, tabling-length, tabling-ends}
+use Rattle.stops.specs.Cuts.{unbroken}
+use Rattle.rules.specs.Marking.{marks_at}
+use Rattle.rules.proofs.Blocks.{marks-part, goes_back}
+use Rattle.rules.proofs.Making.{clear-zeros}
+use Rattle.rules.proofs.Parts.{part-long, part-start, part_room, part-fills}
+use Rattle.rules.proofs.codes.mark_many.Given as goal
+
+abbrev pub invariant-loop-at : goal.invariant-loop-at
+invariant-loop-at l =
+    Tabling (marks_at unbroken l.l l.set l.values) (length l.values) l.initial.out l.out l.at
+
+abbrev pub decreases-loop-at : goal.decreases-loop-at
+decreases-loop-at l =
+    length l.values - l.at

@@ -1,0 +1,21 @@
+-- `rules::codes::pad` meets its contract: one value after the other. Assumes nothing.
+use mathlib.Core.Path.{refl, ◌∙◌}
+use Prim.Native.Nat.{◌-◌}
+use native.Mathlib.Omega.{arith}
+use borrow.Author.Rules.{rules}
+use lib.Ieee.{nan}
+use lib.ListN.{length}
+use Rattle.laws.proofs.Filling.{Filling, filling-starts, filling-length, filling-goes-on, filling-ends}
+use Rattle.rules.proofs.codes.pad.Goals as goal
+
+pub loop-j-init : goal.loop-j-init
+loop-j-init c =
+    filling-starts _ _ (omega arith)
+
+pub loop-j-preserved : goal.loop-j-preserved
+loop-j-preserved c =
+    filling-goes-on _ _ _ _ c.loop-j.invariant nan _ (omega arith) refl
+
+pub returns : goal.returns
+returns c =
+    (filling-ends _ _ _ _ c.loop-j.invariant (omega arith), filling-length _ _ _ _ c.loop-j.invariant ∙ c.requires.1)

@@ -1,0 +1,37 @@
+-- `rules::codes::read_runs` meets its contract: the marks are written one after the other. Assumes nothing.
+use Prim.Native.Nat.{◌-◌}
+use native.Mathlib.Omega.{arith}
+use borrow.Author.Rules.{rules}
+use lib.Bits.{bit_and}
+use Rattle.laws.proofs.Filling.{Tabling, tabling-starts, tabling-length, tabling-room, tabling-ends}
+use Rattle.rules.specs.Codes.{marks_read}
+use Rattle.rules.proofs.Marks.{reads_on}
+use Rattle.rules.proofs.codes.read_runs.Goals as goal
+
+pub loop-i-init : goal.loop-i-init
+loop-i-init c =
+    tabling-starts _ _ _ c.requires.1
+
+pub standing_at-requires : goal.standing_at-requires
+standing_at-requires c =
+    omega arith
+
+pub offset_bounds-out-i : goal.offset_bounds-out-i
+offset_bounds-out-i c =
+    omega (arith, tabling-room _ _ _ _ _ c.loop-i.invariant c.loop-i-test.true)
+
+pub bounds-out-i : goal.bounds-out-i
+bounds-out-i c =
+    tabling-room _ _ _ _ _ c.loop-i.invariant c.loop-i-test.true
+
+pub loop-i-preserved : goal.loop-i-preserved
+loop-i-preserved c =
+    reads_on _ _ _ _ _ _ c.loop-i.invariant c.loop-i-test.true _ c.standing_at.ensures
+
+pub shape_of-out : goal.shape_of-out
+shape_of-out c =
+    tabling-length _ _ _ _ _ c.loop-i.invariant
+
+pub returns : goal.returns
+returns c =
+    tabling-ends _ _ _ _ _ c.loop-i.invariant c.loop-i-test.false

@@ -1,0 +1,46 @@
+-- `rules::codes::zones` meets its contract: sixteen codes at a time. Assumes nothing.
+use mathlib.Core.Path.{◌≡◌, refl}
+use mathlib.Core.Bool.{true, false}
+use Prim.Native.Nat.{◌-◌}
+use native.Mathlib.Omega.{arith}
+use borrow.Author.Rules.{rules}
+use borrow.Author.Tests.{not-true, not-false}
+use lib.ListN.{length}
+use Rattle.rules.specs.Codes.{zone_code, zone_at}
+use Rattle.rules.proofs.Making.{added_none, Adding, adding-starts, adding-next, adding-ends}
+use Rattle.rules.proofs.Parts.{sixteen-long, sixteen-room}
+use Rattle.rules.proofs.codes.zones.Goals as goal
+
+pub returns-then-not-need : goal.returns-then-not-need
+returns-then-not-need c =
+    let off : c.args.need ≡ false = not-true _ c.if-not-need.true in rw off (added_none _ _)
+
+pub zones_of-requires : goal.zones_of-requires
+zones_of-requires c =
+    let e = c.next-e in sixteen-long _ e.result e.ensures.2 e.ensures.1
+
+pub join-requires : goal.join-requires
+join-requires c =
+    let e = c.next-e in
+    sixteen-room c.loop-i.c e.result e.ensures.2 (omega (arith, e.ensures.1, c.loop-i.invariant.room))
+
+pub loop-i-preserved : goal.loop-i-preserved
+loop-i-preserved c =
+    let s = c.args in
+    let at = c.loop-i in
+    let e = c.next-e in
+    adding-next (λ u v. zone_code s.high s.low s.up s.down v) s.values.now at.i e.result e.ensures _ _ at.invariant (omega arith) _ refl _ _ c.zones_of.ensures
+    c.join.ensures (search rules)
+
+pub returns : goal.returns
+returns c =
+    let on : c.args.need ≡ true = not-false _ c.if-not-need.false in
+    rw on (adding-ends _ _ _ _ _ c.loop-i.invariant (omega arith))
+
+pub loop-i-init : goal.loop-i-init
+loop-i-init c =
+    adding-starts _ _ _
+
+pub loop-i-smaller : goal.loop-i-smaller
+loop-i-smaller c =
+    omega (arith, c.next-e.ensures.0)

@@ -1,0 +1,17 @@
+-- `RuleSet::contains` meets its contract: the test's mask is tried by and. Assumes nothing.
+use mathlib.Core.Path.{sym}
+use borrow.Author.Rules.{rules}
+use Rattle.sets.specs.Calls.{has_test}
+use Rattle.sets.proofs.Members.{too_large}
+use Rattle.sets.proofs.Masks.{contains-is}
+use Rattle.sets.proofs.RuleSet.contains.Goals as goal
+
+pub returns-then-mask-gt-ALL : goal.returns-then-mask-gt-ALL
+unfolding has_test
+returns-then-mask-gt-ALL c =
+    sym (too_large c.args.self.mask _ _ c.if-mask-gt-ALL.true)
+
+pub returns : goal.returns
+returns c =
+    let args = c.args in
+    contains-is args.self.mask args.t c.mask_of.result c.mask_of.ensures c.if-mask-gt-ALL.false

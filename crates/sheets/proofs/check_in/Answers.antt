@@ -1,0 +1,76 @@
+-- `sheets::check_in` meets its contract: marking refuses first, and else its marks are the right ones. Assumes nothing.
+use native.Mathlib.Omega.{arith}
+use mathlib.Core.Path.{◌≡◌, sym, ap, ◌∙◌}
+use Prim.Native.Nat.{ℕ}
+use mathlib.Core.List.{List}
+use lib.ListN.{length}
+use Rattle.rules.specs.declared.Marked.TheVariants.{Refused}
+use Rattle.rules.specs.Terms.{Terms, under}
+use Rattle.rules.specs.Marking.{numbered, refusal}
+use Rattle.rules.proofs.Accepted.{refusal_is, Made, made}
+use Rattle.rules.proofs.Answers.{number-above}
+use Rattle.sheets.specs.Said.{said}
+use Rattle.sheets.specs.Answers.{plain, judged}
+use Rattle.sheets.proofs.Judging.{check_done, check-refused}
+use borrow.Author.Rules.{rules}
+use Rattle.sheets.proofs.check_in.Goals.{In-Done}
+use Rattle.sheets.proofs.check_in.Goals as goal
+
+-- what the call was given, and what marking made of it
+abbrev start : tie.After-enum-told → tie.Start
+start c = c.before.before.before.before.before.before.before.before.before.before
+
+abbrev terms : tie.Start → Terms
+terms s = under s.args.limits s.args.width s.args.stops.now s.args.moving
+
+done : (c : In-Done) → Made (terms (start c)) (start c).args.set.mask (start c).args.values.now (start c).args.marks.now c.mark.new.1.1.1.1.1.1.0
+done c =
+    let s = start c in
+    let mark = c.mark in
+    made (terms s) s.args.set.mask s.args.values.now s.args.marks.now _ mark.result s.pre mark.ensures.0
+    (ap numbered c.enum_told-1.given.1) mark.ensures.1
+
+pub slice_bounds-check_marks-end : goal.slice_bounds-check_marks-end
+slice_bounds-check_marks-end c =
+    omega (arith, (done (goal.at.slice_bounds-check_marks-end c).In-Done-1).room, c.mark.auto.1.1.1.1.1.1.0)
+
+pub returns-in-Done : goal.returns-in-Done
+returns-in-Done c =
+    let all = done (goal.at.returns-in-Done c).In-Done-1 in
+    let args = c.before.before.before.before.before.before.before.before.before.before.before.before.before.args in
+    c.check_marks.ensures
+    ∙ ap (λ (ms : List ℕ). judged args.set.mask ms (said args.sheet.now)) all.front
+    ∙ check_done (under args.limits args.width args.stops.now args.moving) args.set.mask args.values.now all.none args.sheet.now
+
+pub returns-in-Refused : goal.returns-in-Refused
+returns-in-Refused c =
+    let mark = c.mark in
+    let why = c.why-1.given in
+    let told = refusal_is (terms (goal.at.returns-in-Refused c).Start) c.args.set.mask c.args.values.now (length c.args.marks.now) c.requires mark.result
+    (Refused why.0.0) mark.ensures.0 why.1 in
+    let some : refusal (terms (goal.at.returns-in-Refused c).Start) c.args.set.mask c.args.values.now ≡ 0 → ⊥ = λ e. omega (arith, number-above why.0.0, told, e) in
+    ap plain (sym told) ∙ check-refused (terms (goal.at.returns-in-Refused c).Start) c.args.set.mask c.args.values.now some c.args.sheet.now
+
+pub mark-requires : goal.mark-requires
+mark-requires c =
+    tt
+
+pub slice_bounds-check_marks-count : goal.slice_bounds-check_marks-count
+slice_bounds-check_marks-count c =
+    omega arith
+
+pub slice_bounds-check_marks-start : goal.slice_bounds-check_marks-start
+slice_bounds-check_marks-start c =
+    omega arith
+
+pub check_marks-requires : goal.check_marks-requires
+check_marks-requires c =
+    tt
+
+pub shape_of-marks-in-Done : goal.shape_of-marks-in-Done
+shape_of-marks-in-Done c =
+    omega arith
+
+pub shape_of-marks-in-Refused : goal.shape_of-marks-in-Refused
+shape_of-marks-in-Refused c =
+    omega arith

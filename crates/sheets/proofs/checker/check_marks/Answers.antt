@@ -1,0 +1,70 @@
+-- `sheets::checker::check_marks` meets its contract: the head, and then what the entries say. Assumes nothing.
+use Prim.Native.Nat.{ℕ, ◌-◌}
+use native.Mathlib.Omega.{arith}
+use mathlib.Core.Path.{sym, ap, ◌∙◌, subst}
+use Rattle.sheets.specs.Said.{entries}
+use Rattle.sheets.specs.Answers.{judged}
+use Rattle.sheets.specs.Steps.{after_head, Few}
+use Rattle.sheets.proofs.Points.{zeros-front, front_long}
+use borrow.Author.Rules.{rules}
+use Rattle.sheets.proofs.checker.check_marks.Goals as goal
+
+pub read_head-requires : goal.read_head-requires
+read_head-requires c =
+    tt
+
+pub check_entries-requires : goal.check_entries-requires
+check_entries-requires c =
+    zeros-front 128 (c.points-1.given.0.0 - 0)
+
+pub returns-then-points-le-FEW : goal.returns-then-points-le-FEW
+returns-then-points-le-FEW c =
+    let args = c.args in
+    let points = c.points-1.given in
+    let told = sym (c.read_head.ensures.0 ∙ ap (after_head args.s.now) points.1) in
+    let long = front_long 128 points.0.0 c.if-points-le-FEW.true in
+    c.check_entries.ensures
+    ∙ ap (judged args.set args.marks.now)
+    (ap (λ (n : ℕ). entries args.s.now points.0.1.0 points.0.1.1.0 n points.0.1.1.1.0) long ∙ told)
+
+pub slice_bounds-stated-end-in-Names : goal.slice_bounds-stated-end-in-Names
+slice_bounds-stated-end-in-Names c =
+    let few = subst Few c.points-1.given.1 c.read_head.ensures.1 in omega arith
+
+pub check_entries-requires-in-Names : goal.check_entries-requires-in-Names
+check_entries-requires-in-Names c =
+    zeros-front 4096 (c.points-1.given.0.0 - 0)
+
+pub returns-in-Faulty : goal.returns-in-Faulty
+returns-in-Faulty c =
+    ap (judged c.args.set c.args.marks.now) (sym (c.read_head.ensures.0 ∙ ap (after_head c.args.s.now) c.at-1.given.1))
+
+pub returns-else-points-le-FEW : goal.returns-else-points-le-FEW
+returns-else-points-le-FEW c =
+    let args = c.args in
+    let points = c.points-1.given in
+    let told = sym (c.read_head.ensures.0 ∙ ap (after_head args.s.now) points.1) in
+    let long = front_long 4096 points.0.0 (subst Few points.1 c.read_head.ensures.1) in
+    c.check_entries-in-Names.ensures
+    ∙ ap (judged args.set args.marks.now)
+    (ap (λ (n : ℕ). entries args.s.now points.0.1.0 points.0.1.1.0 n points.0.1.1.1.0) long ∙ told)
+
+pub slice_bounds-check_entries-count : goal.slice_bounds-check_entries-count
+slice_bounds-check_entries-count c =
+    omega arith
+
+pub slice_bounds-stated-start : goal.slice_bounds-stated-start
+slice_bounds-stated-start c =
+    omega arith
+
+pub slice_bounds-stated-end : goal.slice_bounds-stated-end
+slice_bounds-stated-end c =
+    omega arith
+
+pub slice_bounds-check_entries-count-in-Names : goal.slice_bounds-check_entries-count-in-Names
+slice_bounds-check_entries-count-in-Names c =
+    omega arith
+
+pub slice_bounds-stated-start-in-Names : goal.slice_bounds-stated-start-in-Names
+slice_bounds-stated-start-in-Names c =
+    omega arith

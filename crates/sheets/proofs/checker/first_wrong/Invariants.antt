@@ -1,0 +1,17 @@
+-- `sheets::checker::first_wrong` meets its contract: the points that are left say what all of them say. Assumes nothing.
+use native.Mathlib.Omega.{arith}
+use Prim.Native.Nat.{◌-◌, ◌≤◌}
+use mathlib.Core.Path.{◌≡◌, refl, sym, ◌∙◌}
+use borrow.Author.Tests.{eqb-true}
+use lib.ListN.{length}
+use Rattle.sheets.proofs.Comparing.{wrong_from, none_left, point-right, point-wrong, all_right}
+use borrow.Author.Rules.{rules}
+use Rattle.sheets.proofs.checker.first_wrong.Given as goal
+
+abbrev pub invariant-loop-i : goal.invariant-loop-i
+invariant-loop-i l =
+    (l.i ≤ length l.right) × (wrong_from l.right l.stated 0 ≡ wrong_from l.right l.stated l.i)
+
+abbrev pub decreases-loop-i : goal.decreases-loop-i
+decreases-loop-i l =
+    length l.right - l.i

@@ -1,0 +1,26 @@
+-- `sheets::reader::read_at_most` meets its contract: its tests are those of `at_most`. Assumes nothing.
+use mathlib.Core.Path.{sym, ◌∙◌}
+use Rattle.sheets.proofs.Reading.{most-none, most-taken, most-over}
+use borrow.Author.Rules.{rules}
+use Rattle.sheets.proofs.reader.read_at_most.Goals as goal
+
+pub read_number-requires : goal.read_number-requires
+read_number-requires c =
+    tt
+
+pub returns-in_default : goal.returns-in_default
+returns-in_default c =
+    let args = c.args in
+    most-none args.most args.at _ _ (sym c.read_number.ensures ∙ c.enum_told-1.given.1)
+
+pub returns-then-value-most : goal.returns-then-value-most
+returns-then-value-most c =
+    let args = c.args in
+    let read_number = c.read_number in
+    most-taken args.most args.at _ _ _ (sym read_number.ensures ∙ c.value-1.given.1) c.if-value-most.true
+
+pub returns : goal.returns
+returns c =
+    let args = c.args in
+    let read_number = c.read_number in
+    most-over args.most args.at _ _ _ (sym read_number.ensures ∙ c.value-1.given.1) c.if-value-most.false

@@ -1,0 +1,69 @@
+-- `sheets::reader::read_head` meets its contract: its numbers are those of `said_from`, in the same order. Assumes nothing.
+use mathlib.Core.Path.{sym, ◌∙◌}
+use native.Mathlib.Omega.{arith}
+use Rattle.sheets.specs.Said.{said_from}
+use Rattle.sheets.proofs.Reading.{number_read, number-fault, number-low}
+use borrow.Author.Rules.{rules}
+use Rattle.sheets.proofs.reader.read_head.Goals as goal
+
+pub read_at_most-requires : goal.read_at_most-requires
+read_at_most-requires c =
+    tt
+
+pub returns-in_default : goal.returns-in_default
+unfolding said_from
+returns-in_default c =
+    (number-fault 4096 0 _ c.args.s.now _ (sym c.read_at_most.ensures ∙ c.enum_told-1.given.1), tt)
+
+pub overflow_cast-read_at_most : goal.overflow_cast-read_at_most
+overflow_cast-read_at_most c =
+    omega arith
+
+pub read_at_most-requires-2 : goal.read_at_most-requires-2
+read_at_most-requires-2 c =
+    tt
+
+pub returns-in_default-read_at_most : goal.returns-in_default-read_at_most
+unfolding said_from
+returns-in_default-read_at_most c =
+    let s = c.args.s.now in
+    let points = c.points-1.given in
+    let second = points.0.1.0 in
+    let first = number_read 4096 0 _ s points.0.0 second (sym c.read_at_most.ensures ∙ points.1) in
+    (first ∙ number-fault 511 second _ s _ (sym c.read_at_most-2.ensures ∙ c.enum_told-in_default-read_at_most-1.given.1), tt)
+
+pub read_at_most-requires-3 : goal.read_at_most-requires-3
+read_at_most-requires-3 c =
+    tt
+
+pub returns-in_default-read_at_most-2 : goal.returns-in_default-read_at_most-2
+unfolding said_from
+returns-in_default-read_at_most-2 c =
+    let s = c.args.s.now in
+    let points = c.points-1.given in
+    let second = points.0.1.0 in
+    let set = c.set-1.given in
+    let third = set.0.1.0 in
+    let first = number_read 4096 0 _ s points.0.0 second (sym c.read_at_most.ensures ∙ points.1) in
+    let next = number_read 511 second _ s set.0.0 third (sym c.read_at_most-2.ensures ∙ set.1) in
+    (first ∙ next ∙ number-fault points.0.0 third _ s _ (sym c.read_at_most-3.ensures ∙ c.enum_told-in_default-read_at_most-2-1.given.1), tt)
+
+pub overflow_cast-result : goal.overflow_cast-result
+overflow_cast-result c =
+    let set = c.set-1.given in
+    omega (arith, number-low 511 c.points-1.given.0.1.0 c.args.s.now set.0.0 set.0.1.0 (sym c.read_at_most-2.ensures ∙ set.1))
+
+pub returns : goal.returns
+unfolding said_from
+returns c =
+    let s = c.args.s.now in
+    let points = c.points-1.given in
+    let second = points.0.1.0 in
+    let set = c.set-1.given in
+    let third = set.0.1.0 in
+    let marked = c.marked-1.given in
+    let read-points = sym c.read_at_most.ensures ∙ points.1 in
+    let first = number_read 4096 0 _ s points.0.0 second read-points in
+    let next = number_read 511 second _ s set.0.0 third (sym c.read_at_most-2.ensures ∙ set.1) in
+    let last = number_read points.0.0 third _ s marked.0.0 marked.0.1.0 (sym c.read_at_most-3.ensures ∙ marked.1) in
+    (first ∙ next ∙ last, number-low 4096 0 s points.0.0 second read-points)

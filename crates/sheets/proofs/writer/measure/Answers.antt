@@ -1,0 +1,84 @@
+-- `sheets::writer::measure` meets its contract. `Measures` of proofs/Writing.antt is the invariant of its loop. Assumes nothing.
+use Prim.Native.Nat.{◌-◌}
+use native.Mathlib.Omega.{arith}
+use lib.ListN.{length}
+use Rattle.sheets.proofs.Writing.{Measures, measures-start, measures-skip, measures-put, measures-end}
+use Rattle.sheets.proofs.writer.measure.Goals as goal
+
+pub loop-i-init : goal.loop-i-init
+loop-i-init c =
+    measures-start c.args.marks.now
+
+pub offset_bounds-marks-i : goal.offset_bounds-marks-i
+offset_bounds-marks-i c =
+    omega arith
+
+pub bounds-marks-i : goal.bounds-marks-i
+bounds-marks-i c =
+    omega arith
+
+pub overflow_add-skip : goal.overflow_add-skip
+overflow_add-skip c =
+    omega arith
+
+pub overflow_add-i : goal.overflow_add-i
+overflow_add-i c =
+    omega arith
+
+pub loop-i-smaller-then-m-eq0 : goal.loop-i-smaller-then-m-eq0
+loop-i-smaller-then-m-eq0 c =
+    omega arith
+
+pub loop-i-preserved-then-m-eq0 : goal.loop-i-preserved-then-m-eq0
+loop-i-preserved-then-m-eq0 c =
+    let args = c.args in
+    let loop = c.loop-i in
+    let loop-test = c.loop-i-test in
+    measures-skip args.marks.now loop.i loop.skip loop.marked loop.len loop.invariant loop-test.true c.if-m-eq0.true
+
+pub size-requires : goal.size-requires
+size-requires c =
+    tt
+
+pub overflow_add-len : goal.overflow_add-len
+overflow_add-len c =
+    let loop = c.loop-i in
+    omega (arith, loop.invariant.short, loop.invariant.points, c.size.ensures.1)
+
+pub size-requires-else-m-eq0 : goal.size-requires-else-m-eq0
+size-requires-else-m-eq0 c =
+    tt
+
+pub overflow_add-len-else-m-eq0 : goal.overflow_add-len-else-m-eq0
+overflow_add-len-else-m-eq0 c =
+    let loop = c.loop-i in
+    omega (arith, loop.invariant.short, loop.invariant.points, c.size.ensures.1, c.size-else-m-eq0.ensures.1)
+
+pub overflow_add-marked : goal.overflow_add-marked
+overflow_add-marked c =
+    omega arith
+
+pub overflow_add-i-else-m-eq0 : goal.overflow_add-i-else-m-eq0
+overflow_add-i-else-m-eq0 c =
+    omega arith
+
+pub loop-i-smaller : goal.loop-i-smaller
+loop-i-smaller c =
+    omega arith
+
+pub loop-i-preserved : goal.loop-i-preserved
+loop-i-preserved c =
+    let args = c.args in
+    let loop = c.loop-i in
+    let loop-test = c.loop-i-test in
+    let if1 = c.if-m-eq0 in
+    let size = c.size in
+    let size2 = c.size-else-m-eq0 in
+    measures-put args.marks.now loop.i loop.skip loop.marked loop.len loop.invariant loop-test.true if1.false size.result
+    size2.result size.ensures size2.ensures
+
+pub returns : goal.returns
+returns c =
+    let args = c.args in
+    let loop = c.loop-i in
+    measures-end args.marks.now loop.i loop.skip loop.marked loop.len loop.invariant c.loop-i-test.false

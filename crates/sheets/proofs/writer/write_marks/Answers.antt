@@ -1,0 +1,170 @@
+-- `sheets::writer::write_marks` meets its contract: the room is measured first, and the entries go behind the head. Assumes nothing.
+use Prim.Native.Nat.{ℕ, ◌≤◌}
+use native.Mathlib.Omega.{arith}
+use mathlib.Core.Path.{refl, ap, ◌∙◌}
+use mathlib.Core.List.{List}
+use borrow.Author.Tests.{le-leb, lt-leb}
+use lib.ListN.{length}
+use Rattle.laws.specs.Front.{at_front}
+use Rattle.laws.proofs.Lending.{second-start, second-room, second-fills}
+use Rattle.sheets.specs.Sheet.{entries_of, sheet_of}
+use Rattle.sheets.proofs.Writing.{head_of, sheet-parts, sheet-length, parts-fit, head-fits}
+use Rattle.sheets.proofs.writer.write_marks.Goals as goal
+
+pub overflow_cast-points : goal.overflow_cast-points
+overflow_cast-points c =
+    omega arith
+
+pub measure-measured-requires : goal.measure-measured-requires
+measure-measured-requires c =
+    omega arith
+
+pub size-requires : goal.size-requires
+size-requires c =
+    tt
+
+pub size-requires-2 : goal.size-requires-2
+size-requires-2 c =
+    tt
+
+pub overflow_add-head : goal.overflow_add-head
+overflow_add-head c =
+    omega arith
+
+pub size-requires-3 : goal.size-requires-3
+size-requires-3 c =
+    tt
+
+pub overflow_add-head-2 : goal.overflow_add-head-2
+overflow_add-head-2 c =
+    omega arith
+
+pub overflow_add-head-3 : goal.overflow_add-head-3
+overflow_add-head-3 c =
+    omega arith
+
+pub returns-then-out-head : goal.returns-then-out-head
+returns-then-out-head c =
+    let args = c.args in
+    let measure = c.measure-measured in
+    let size = c.size in
+    let size2 = c.size-2 in
+    let size3 = c.size-3 in
+    let if1 = c.if-out-head in
+    let total = sheet-length args.set args.marks.now measure.result.marked measure.result.len measure.ensures size.result
+    size2.result size3.result size.ensures.0 size2.ensures.0 size3.ensures.0 in
+    let short = lt-leb (length (sheet_of args.set args.marks.now)) (length args.out.now) (omega (arith, total, if1.true)) in
+    simp short (refl, refl)
+
+pub write_head-a-requires : goal.write_head-a-requires
+write_head-a-requires c =
+    let args = c.args in
+    let measure = c.measure-measured in
+    let size = c.size in
+    let size2 = c.size-2 in
+    let size3 = c.size-3 in
+    let if1 = c.if-out-head in
+    let total = sheet-length args.set args.marks.now measure.result.marked measure.result.len measure.ensures size.result
+    size2.result size3.result size.ensures.0 size2.ensures.0 size3.ensures.0 in
+    let room : length (sheet_of args.set args.marks.now) ≤ length args.out.now = omega (arith, total, if1.false) in
+    head-fits args.set args.marks.now measure.result.marked measure.result.len measure.ensures args.out.now room
+
+pub slice_bounds-write_entries-count : goal.slice_bounds-write_entries-count
+slice_bounds-write_entries-count c =
+    let args = c.args in
+    let measure = c.measure-measured in
+    let size = c.size in
+    let size2 = c.size-2 in
+    let size3 = c.size-3 in
+    let if1 = c.if-out-head in
+    let write-head = c.write_head-a in
+    let total = sheet-length args.set args.marks.now measure.result.marked measure.result.len measure.ensures size.result
+    size2.result size3.result size.ensures.0 size2.ensures.0 size3.ensures.0 in
+    let room : length (sheet_of args.set args.marks.now) ≤ length args.out.now = omega (arith, total, if1.false) in
+    second-start (head_of (length args.marks.now) args.set measure.result.marked) (entries_of 0 args.marks.now) args.out.now
+    write-head.new.0 write-head.result
+    (parts-fit args.set args.marks.now measure.result.marked measure.result.len measure.ensures args.out.now room)
+    write-head.ensures.1 write-head.ensures.0
+
+pub slice_bounds-write_entries-start : goal.slice_bounds-write_entries-start
+slice_bounds-write_entries-start c =
+    let args = c.args in
+    let measure = c.measure-measured in
+    let size = c.size in
+    let size2 = c.size-2 in
+    let size3 = c.size-3 in
+    let if1 = c.if-out-head in
+    let write-head = c.write_head-a in
+    let total = sheet-length args.set args.marks.now measure.result.marked measure.result.len measure.ensures size.result
+    size2.result size3.result size.ensures.0 size2.ensures.0 size3.ensures.0 in
+    let room : length (sheet_of args.set args.marks.now) ≤ length args.out.now = omega (arith, total, if1.false) in
+    second-start (head_of (length args.marks.now) args.set measure.result.marked) (entries_of 0 args.marks.now) args.out.now
+    write-head.new.0 write-head.result
+    (parts-fit args.set args.marks.now measure.result.marked measure.result.len measure.ensures args.out.now room)
+    write-head.ensures.1 write-head.ensures.0
+
+pub slice_bounds-write_entries-end : goal.slice_bounds-write_entries-end
+slice_bounds-write_entries-end c =
+    omega arith
+
+pub write_entries-b-requires : goal.write_entries-b-requires
+write_entries-b-requires c =
+    let args = c.args in
+    let pre = c.requires in
+    let measure = c.measure-measured in
+    let size = c.size in
+    let size2 = c.size-2 in
+    let size3 = c.size-3 in
+    let if1 = c.if-out-head in
+    let write-head = c.write_head-a in
+    let total = sheet-length args.set args.marks.now measure.result.marked measure.result.len measure.ensures size.result
+    size2.result size3.result size.ensures.0 size2.ensures.0 size3.ensures.0 in
+    let room : length (sheet_of args.set args.marks.now) ≤ length args.out.now = omega (arith, total, if1.false) in (
+      pre,
+      second-room (head_of (length args.marks.now) args.set measure.result.marked) (entries_of 0 args.marks.now)
+          args.out.now write-head.new.0 write-head.result
+          (parts-fit args.set args.marks.now measure.result.marked measure.result.len measure.ensures args.out.now room)
+          write-head.ensures.1 write-head.ensures.0,
+    )
+
+pub overflow_add-result : goal.overflow_add-result
+overflow_add-result c =
+    let total = sheet-length c.args.set c.args.marks.now c.measure-measured.result.marked c.measure-measured.result.len c.measure-measured.ensures c.size.result c.size-2.result c.size-3.result c.size.ensures.0 c.size-2.ensures.0 c.size-3.ensures.0 in
+    let room : length (sheet_of c.args.set c.args.marks.now) ≤ length c.args.out.now = omega (
+      arith,
+      total,
+      c.if-out-head.false,
+    ) in
+    omega (
+      arith,
+      (second-fills (head_of
+          (length c.args.marks.now) c.args.set c.measure-measured.result.marked) (entries_of 0 c.args.marks.now) c.args.out.now c.write_head-a.new.0 c.write_head-a.result (parts-fit
+          c.args.set c.args.marks.now c.measure-measured.result.marked c.measure-measured.result.len c.measure-measured.ensures c.args.out.now room) c.write_head-a.ensures.1 c.write_head-a.ensures.0 c.write_entries-b.new.0 c.write_entries-b.result c.write_entries-b.ensures.1 c.write_entries-b.ensures.0).0,
+      parts-fit c.args.set c.args.marks.now c.measure-measured.result.marked c.measure-measured.result.len c.measure-measured.ensures c.args.out.now room,
+    )
+
+pub shape_of-out : goal.shape_of-out
+shape_of-out c =
+    omega arith
+
+pub returns : goal.returns
+returns c =
+    let args = c.args in
+    let measure = c.measure-measured in
+    let size = c.size in
+    let size2 = c.size-2 in
+    let size3 = c.size-3 in
+    let if1 = c.if-out-head in
+    let write-head = c.write_head-a in
+    let write_entries = c.write_entries-b in
+    let total = sheet-length args.set args.marks.now measure.result.marked measure.result.len measure.ensures size.result
+    size2.result size3.result size.ensures.0 size2.ensures.0 size3.ensures.0 in
+    let room : length (sheet_of args.set args.marks.now) ≤ length args.out.now = omega (arith, total, if1.false) in
+    let holds = le-leb (length (sheet_of args.set args.marks.now)) (length args.out.now) room in
+    let fills = second-fills (head_of (length args.marks.now) args.set measure.result.marked) (entries_of 0 args.marks.now)
+    args.out.now write-head.new.0 write-head.result
+    (parts-fit args.set args.marks.now measure.result.marked measure.result.len measure.ensures args.out.now room)
+    write-head.ensures.1 write-head.ensures.0 write_entries.new.0 write_entries.result write_entries.ensures.1
+    write_entries.ensures.0 in
+    let parts = sheet-parts args.set args.marks.now measure.result.marked measure.result.len measure.ensures in
+    simp holds (ap (λ (n : ℕ). (0, n)) (fills.0 ∙ ap length parts), fills.1 ∙ ap (λ (l : List ℕ). at_front l args.out.now) parts)

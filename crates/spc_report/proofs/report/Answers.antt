@@ -1,0 +1,24 @@
+-- `spc_report::report` meets its contract: no report is longer than the room. Assumes nothing.
+use mathlib.Core.Path.{◌≡◌}
+use Prim.Native.Nat.{ℕ}
+use native.Mathlib.Omega.{arith}
+use lib.ListN.{length}
+use Rattle.reports.specs.Report.{text_of}
+use Rattle.reports.proofs.Longest.{text-short, always-text, always-written}
+use borrow.Author.Rules.{rules}
+use Rattle.spc_report.proofs.report.Goals as goal
+
+pub returns-in-Text : goal.returns-in-Text
+returns-in-Text c =
+    let report = c.report in
+    let told = always-text c.args.input.now c.args.out.now c.requires report.result report.ensures.0 in
+    let whole : c.len-1.given.0.0 ≡ length (text_of c.args.input.now) = cc in
+    let written = always-written c.args.input.now c.args.out.now c.requires report.new.1.0 report.ensures.1 in
+    (whole, (written, omega (arith, report.auto, c.requires, text-short c.args.input.now)))
+
+pub returns-in-TooShort : goal.returns-in-TooShort
+returns-in-TooShort c =
+    let report = c.report in
+    let told = always-text c.args.input.now c.args.out.now c.requires report.result report.ensures.0 in
+    let never : ◌≡◌ {A = ℕ} 0 1 = cc in
+    absurd (omega arith)

@@ -1,0 +1,18 @@
+-- `twin::read_floats` meets its contract. The values are written one after the other. Assumes nothing.
+use Prim.Native.Nat.{◌-◌, ◌/◌}
+use native.Mathlib.Omega.{arith}
+use mathlib.Core.Path.{ap, ◌∙◌}
+use lib.Ieee.{binary64, of_bits}
+use lib.ListN.{length}
+use Rattle.laws.proofs.Filling.{Tabling, tabling-starts, tabling-length, tabling-room, tabling-goes-on, tabling-ends}
+use Rattle.twin.specs.Bytes.{float_at, floats_of}
+use borrow.Author.Rules.{rules}
+use Rattle.twin.proofs.read_floats.Given as goal
+
+abbrev pub invariant-loop-i : goal.invariant-loop-i
+invariant-loop-i l =
+    Tabling (float_at l.b) (length l.b / 8) l.initial.out l.out l.i
+
+abbrev pub decreases-loop-i : goal.decreases-loop-i
+decreases-loop-i l =
+    length l.b / 8 - l.i
