@@ -88,6 +88,7 @@ impl Test {
     /// The bit number of this test: its place in 01's table.
     ///
     /// `Test::EightOneSide.bit()` is 8.
+    #[tactic(auto, unfolding(crate::specs::Sets::bit_of))]
     pub fn bit(self) -> u64
         ensures { result ≡ bit_of self }
     {

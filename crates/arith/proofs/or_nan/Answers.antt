@@ -7,9 +7,9 @@ use Rattle.arith.proofs.or_nan.Goals as goal
 pub returns-in-Root : goal.returns-in-Root
 unfolding or_nan
 returns-in-Root c =
-    sym (ap or_nan c.r-1.given.1)
+    sym (ap or_nan c.in-Root.is)
 
 pub returns-in-Refused : goal.returns-in-Refused
 unfolding or_nan div of_bits
 returns-in-Refused c =
-    sym (ap or_nan c.enum_told-1.given.1)
+    sym (ap or_nan c.in-Refused.is)

@@ -9,18 +9,15 @@ use Rattle.evaluating.proofs.Figures.{figure-refused, figure-done, was-refused, 
 use Rattle.evaluating.proofs.estimate.Goals.{In-Done-2}
 use Rattle.evaluating.proofs.estimate.Goals as goal
 
-abbrev question : tie.Start → Asked
-question c = asked c.args.chart c.args.values.now
-
 -- ---- where there is a centre line
 
-accepted : (c : In-Done-2) → sigma_number (question c.Start) ≡ 0
+accepted : (c : In-Done-2) → sigma_number ((asked c.args.chart c.args.values.now)) ≡ 0
 accepted c =
-    was-done _ _ c.centre.ensures c.mean-1.given.1
+    was-done _ _ c.centre.ensures c.in-Done.is
 
 right : (c : In-Done-2) → own_wrong c.args.chart ≡ false
 right c =
-    own_of c.args.chart (length c.args.values.now) (record-right (question c.Start) (accepted c))
+    own_of c.args.chart (length c.args.values.now) (record-right ((asked c.args.chart c.args.values.now)) (accepted c))
 
 pub sigma_from-requires : goal.sigma_from-requires
 sigma_from-requires c =
@@ -33,14 +30,14 @@ df_of-requires c =
 pub returns-in-Refused : goal.returns-in-Refused
 unfolding estimate_of sigma_hat_of sigma_hat_df_of unless_refused
 returns-in-Refused c =
-    let refused = figure-refused _ c.why-1.given.0.0 (was-refused _ _ c.centre.ensures c.why-1.given.1) in
+    let refused = figure-refused _ c.in-Refused.why (was-refused _ _ c.centre.ensures c.in-Refused.is) in
     ap₂ (λ (p q : ℕ × Float). (p.0, p.1, q.1)) (refused _) (refused _)
 
 pub returns-in-Done : goal.returns-in-Done
 unfolding estimate_of sigma_hat_of sigma_hat_df_of unless_refused
 returns-in-Done c =
     let chart = c.args.chart in
-    let is = value-done _ _ c.centre.ensures c.mean-1.given.1 in
+    let is = value-done _ _ c.centre.ensures c.in-Done.is in
     let none = accepted (goal.at.returns-in-Done c).In-Done-2 in
     ap₂ (λ (p q : ℕ × Float). (p.0, p.1, q.1)) (figure-done _ none (c.sigma_from.ensures ∙ ap (sigma_from chart) is))
     (figure-done _ none c.df_of.ensures)

@@ -7,10 +7,10 @@ use Rattle.evaluating.proofs.sigma_hat.Goals as goal
 
 pub returns-in-Refused : goal.returns-in-Refused
 returns-in-Refused c =
-    sym (ap (λ (e : Estimated). ((estimated e).0, (estimated e).1)) c.why-1.given.1)
+    sym (ap (λ (e : Estimated). ((estimated e).0, (estimated e).1)) c.in-Refused.is)
     ∙ its-hat _ c.estimate.result c.estimate.ensures
 
 pub returns-in-Done : goal.returns-in-Done
 returns-in-Done c =
-    sym (ap (λ (e : Estimated). ((estimated e).0, (estimated e).1)) c.both-1.given.1)
+    sym (ap (λ (e : Estimated). ((estimated e).0, (estimated e).1)) c.in-Done.is)
     ∙ its-hat _ c.estimate.result c.estimate.ensures

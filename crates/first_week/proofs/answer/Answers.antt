@@ -1,4 +1,3 @@
-
 use borrow.Author.Rules.{rules}
 use Rattle.first_week.proofs.answer.Reads as reads
 use Rattle.first_week.proofs.answer.Lts as lts
@@ -18,9 +17,11 @@ tell-requires c =
 -- src/lib.rt:108:1
 pub returns-in-Done : goal.returns-in-Done
 returns-in-Done c =
-    ?
+    let all = ? in
+    record { answer = all.0; kept = all.1 }
 
 -- src/lib.rt:108:1
 pub returns-in-Refused : goal.returns-in-Refused
 returns-in-Refused c =
-    ?
+    let all = ? in
+    record { answer = all.0; kept = all.1 }

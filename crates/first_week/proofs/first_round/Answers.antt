@@ -1,4 +1,3 @@
-
 use borrow.Author.Rules.{rules}
 use Rattle.first_week.proofs.first_round.Reads as reads
 use Rattle.first_week.proofs.first_round.Lts as lts
@@ -15,4 +14,5 @@ slice_bounds-evaluate-end c =
 -- src/lib.rt:69:1
 pub returns : goal.returns
 returns c =
-    ?
+    let all = ? in
+    record { answer = all.0; main = all.1.0; dispersion = all.1.1.0; main_marks = all.1.1.1.0; dispersion_marks = all.1.1.1.1 }

@@ -13,7 +13,7 @@ loop-left-init c =
 
 pub overflow_add-n : goal.overflow_add-n
 overflow_add-n c =
-    omega (arith, groups-most c.args.x 9 (omega arith), groups-some c.loop-left.false)
+    omega (arith, groups-most c.args.x 9 (omega arith), groups-some c.loop-left.left)
 
 pub loop-left-smaller : goal.loop-left-smaller
 loop-left-smaller c =
@@ -21,10 +21,10 @@ loop-left-smaller c =
 
 pub loop-left-preserved : goal.loop-left-preserved
 loop-left-preserved c =
-    omega (arith, ap length (groups-more c.loop-left.false c.loop-left-test.true))
+    omega (arith, ap length (groups-more c.loop-left.left c.loop-left-test.true))
 
 pub returns : goal.returns
 returns c =
     let all : c.loop-left.n ≡ length (groups c.args.x) =
-    omega (arith, ap length (groups-one c.loop-left.false c.loop-left-test.false)) in
+    omega (arith, ap length (groups-one c.loop-left.left c.loop-left-test.false)) in
     (all, omega (arith, groups-most c.args.x 9 (omega arith)))

@@ -10,7 +10,8 @@ use Rattle.groups.proofs.write_number.Goals as goal
 pub returns-then-out-size : goal.returns-then-out-size
 returns-then-out-size c =
     let args = c.args in
-    too_short (groups args.x) args.out.now (omega (arith, c.size.ensures))
+    let all = too_short (groups args.x) args.out.now (omega (arith, c.size.ensures)) in
+    record { answer = all.0; room = all.1 }
 
 pub loop-rest-init : goal.loop-rest-init
 loop-rest-init c =
@@ -49,12 +50,9 @@ pub overflow_add-result : goal.overflow_add-result
 overflow_add-result c =
     omega (arith, writes-room c.loop-rest.invariant)
 
-pub shape_of-out : goal.shape_of-out
-shape_of-out c =
-    simp length-set (writes-length c.loop-rest.invariant)
-
 pub returns : goal.returns
 returns c =
     let args = c.args in
     let w = c.loop-rest.invariant in
-    fits (groups args.x) args.out.now w.filling.room _ _ (writes-all w c.loop-rest-test.false) (writes-ends w c.loop-rest-test.false)
+    let all = fits (groups args.x) args.out.now w.filling.room _ _ (writes-all w c.loop-rest-test.false) (writes-ends w c.loop-rest-test.false) in
+    record { answer = all.0; room = all.1 }

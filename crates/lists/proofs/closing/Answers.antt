@@ -9,14 +9,14 @@ use Rattle.lists.proofs.closing.Goals as goal
 pub returns-then-next-list : goal.returns-then-next-list
 unfolding closing_from
 returns-then-next-list c =
-    rw (sym c.read_small.ensures.0 ∙ ap of_small c.end-1.given.1, lt-ltb _ _ c.if-next-list.true)
+    rw (sym c.read_small.ensures.result_value ∙ ap of_small c.in-Read.is, lt-ltb _ _ c.if-next-list.true)
 
 pub returns-else-next-list : goal.returns-else-next-list
 unfolding closing_from
 returns-else-next-list c =
-    rw (sym c.read_small.ensures.0 ∙ ap of_small c.end-1.given.1, le-ltb _ _ c.if-next-list.false)
+    rw (sym c.read_small.ensures.result_value ∙ ap of_small c.in-Read.is, le-ltb _ _ c.if-next-list.false)
 
 pub returns-in-Fault : goal.returns-in-Fault
 unfolding closing_from
 returns-in-Fault c =
-    rw (sym c.read_small.ensures.0 ∙ ap of_small c.fault-1.given.1)
+    rw (sym c.read_small.ensures.result_value ∙ ap of_small c.in-Fault.is)

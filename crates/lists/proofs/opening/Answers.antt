@@ -14,11 +14,11 @@ returns-then-list-gt-MOST_BYTES c =
 pub returns-in-Read : goal.returns-in-Read
 unfolding opening_of
 returns-in-Read c =
-    let found = sym c.read_small.ensures.0 ∙ ap of_small c.format-1.given.1 in
+    let found = sym c.read_small.ensures.result_value ∙ ap of_small c.in-Read.is in
     rw (le-ltb _ _ c.if-list-gt-MOST_BYTES.false, found, ← c.read_number.ensures)
 
 pub returns-in-Fault : goal.returns-in-Fault
 unfolding opening_of
 returns-in-Fault c =
-    let found = sym c.read_small.ensures.0 ∙ ap of_small c.fault-1.given.1 in
+    let found = sym c.read_small.ensures.result_value ∙ ap of_small c.in-Fault.is in
     rw (le-ltb _ _ c.if-list-gt-MOST_BYTES.false, found)

@@ -17,12 +17,12 @@ loop-i-init c =
 
 pub returns-in-Fault : goal.returns-in-Fault
 returns-in-Fault c =
-    sym (ap (λ p. p.1) (row_next (number_from _ _) _ _ _ c.loop-i-test.true _ (sym c.read_number.ensures ∙ ap of_number c.fault-1.given.1)))
+    sym (ap (λ p. p.1) (row_next (number_from _ _) _ _ _ c.loop-i-test.true _ (sym c.read_number.ensures ∙ ap of_number c.in-Fault.is)))
     ∙ c.loop-i.invariant
 
 pub loop-i-preserved : goal.loop-i-preserved
 loop-i-preserved c =
-    sym (ap (λ p. p.1) (row_next (number_from _ _) _ _ _ c.loop-i-test.true _ (sym c.read_number.ensures ∙ ap of_number c.read-1.given.1)))
+    sym (ap (λ p. p.1) (row_next (number_from _ _) _ _ _ c.loop-i-test.true _ (sym c.read_number.ensures ∙ ap of_number c.in-Read.is)))
     ∙ c.loop-i.invariant
 
 pub returns : goal.returns

@@ -8,9 +8,9 @@ use Rattle.lists.proofs.read_answer.Goals as goal
 pub returns-in-Read : goal.returns-in-Read
 unfolding answer_from
 returns-in-Read c =
-    c.listed.ensures ∙ rw (sym c.read_small.ensures.0 ∙ ap of_small c.answer-1.given.1)
+    c.listed.ensures ∙ rw (sym c.read_small.ensures.result_value ∙ ap of_small c.in-Read.is)
 
 pub returns-in-Fault : goal.returns-in-Fault
 unfolding answer_from
 returns-in-Fault c =
-    rw (sym c.read_small.ensures.0 ∙ ap of_small c.fault-1.given.1)
+    rw (sym c.read_small.ensures.result_value ∙ ap of_small c.in-Fault.is)

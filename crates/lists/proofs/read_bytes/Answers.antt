@@ -17,22 +17,31 @@ module _ (room from n : ℕ) where
 pub returns-then-list-from : goal.returns-then-list-from
 unfolding bytes_from
 returns-then-list-from c =
-    let found = sym c.read_number.ensures ∙ ap of_number c.read-1.given.1 in
-    (rw (found, past _ _ _ c.if-list-from.true), tt)
+    let found = sym c.read_number.ensures ∙ ap of_number c.in-Read.is in record {
+      result_value = rw (found, past _ _ _ c.if-list-from.true);
+      inside = tt;
+    }
 
 pub returns-then-list-from-2 : goal.returns-then-list-from-2
 unfolding bytes_from
 returns-then-list-from-2 c =
-    let found = sym c.read_number.ensures ∙ ap of_number c.read-1.given.1 in
-    (rw (found, short _ _ _ c.if-list-from-2.true), tt)
+    let found = sym c.read_number.ensures ∙ ap of_number c.in-Read.is in record {
+      result_value = rw (found, short _ _ _ c.if-list-from-2.true);
+      inside = tt;
+    }
 
 pub returns-else-list-from-2 : goal.returns-else-list-from-2
 unfolding bytes_from
 returns-else-list-from-2 c =
-    let found = sym c.read_number.ensures ∙ ap of_number c.read-1.given.1 in
-    (rw (found, enough _ _ _ c.if-list-from.false c.if-list-from-2.false), search rules)
+    let found = sym c.read_number.ensures ∙ ap of_number c.in-Read.is in record {
+      result_value = rw (found, enough _ _ _ c.if-list-from.false c.if-list-from-2.false);
+      inside = search rules;
+    }
 
 pub returns-in-Fault : goal.returns-in-Fault
 unfolding bytes_from
 returns-in-Fault c =
-    (rw (sym c.read_number.ensures ∙ ap of_number c.fault-1.given.1), tt)
+    record {
+      result_value = rw (sym c.read_number.ensures ∙ ap of_number c.in-Fault.is);
+      inside = tt;
+    }

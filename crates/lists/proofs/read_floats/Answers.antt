@@ -17,14 +17,11 @@ pub offset_bounds-out-i : goal.offset_bounds-out-i
 offset_bounds-out-i c =
     omega (arith, reads-length c.loop-i.invariant)
 
-pub shape_of-out-in-Fault : goal.shape_of-out-in-Fault
-shape_of-out-in-Fault c =
-    reads-length c.loop-i.invariant
-
 pub returns-in-Fault : goal.returns-in-Fault
 returns-in-Fault c =
-    reads-stops c.loop-i.invariant c.loop-i-test.true
-    (sym c.read_float.ensures ∙ ap of_float c.fault-1.given.1)
+    let all = reads-stops c.loop-i.invariant c.loop-i-test.true
+    (sym c.read_float.ensures ∙ ap of_float c.in-Fault.is) in
+    record { result_value = all.0; values = all.1 }
 
 pub overflow_add-i : goal.overflow_add-i
 overflow_add-i c =
@@ -37,12 +34,9 @@ loop-i-smaller c =
 pub loop-i-preserved : goal.loop-i-preserved
 loop-i-preserved c =
     reads-goes-on c.loop-i.invariant c.loop-i-test.true
-    (sym c.read_float.ensures ∙ ap of_float c.read-1.given.1)
-
-pub shape_of-out : goal.shape_of-out
-shape_of-out c =
-    reads-length c.loop-i.invariant
+    (sym c.read_float.ensures ∙ ap of_float c.in-Read.is)
 
 pub returns : goal.returns
 returns c =
-    reads-ends c.loop-i.invariant c.loop-i-test.false
+    let all = reads-ends c.loop-i.invariant c.loop-i-test.false in
+    record { result_value = all.0; values = all.1 }

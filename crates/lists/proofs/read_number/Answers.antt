@@ -8,9 +8,9 @@ use Rattle.lists.proofs.read_number.Goals as goal
 pub returns-in-Number : goal.returns-in-Number
 unfolding number_from
 returns-in-Number c =
-    ap (found_in _ _) (sym c.value-1.given.1 ∙ c.read_number.ensures)
+    ap (found_in _ _) (sym c.in-Number.is ∙ c.read_number.ensures)
 
 pub returns-in-Fault : goal.returns-in-Fault
 unfolding number_from
 returns-in-Fault c =
-    ap fault c.fault_of.ensures ∙ ap (found_in _ _) (sym c.at-1.given.1 ∙ c.read_number.ensures)
+    ap fault c.fault_of.ensures ∙ ap (found_in _ _) (sym c.in-Fault.is ∙ c.read_number.ensures)

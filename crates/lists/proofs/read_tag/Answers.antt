@@ -8,9 +8,9 @@ use Rattle.lists.proofs.read_tag.Goals as goal
 pub returns-in-Read : goal.returns-in-Read
 unfolding tag_from
 returns-in-Read c =
-    c.listed.ensures ∙ rw (sym c.read_small.ensures.0 ∙ ap of_small c.tag-1.given.1)
+    c.listed.ensures ∙ rw (sym c.read_small.ensures.result_value ∙ ap of_small c.in-Read.is)
 
 pub returns-in-Fault : goal.returns-in-Fault
 unfolding tag_from
 returns-in-Fault c =
-    rw (sym c.read_small.ensures.0 ∙ ap of_small c.fault-1.given.1)
+    rw (sym c.read_small.ensures.result_value ∙ ap of_small c.in-Fault.is)

@@ -20,10 +20,15 @@ use Rattle.points.proofs.plot.Goals as goal
 pub returns-then-too_short : goal.returns-then-too_short
 returns-then-too_short c =
     let if1 = c.if-too_short in
-    let too_short = c.too_short in (
-      number-6 _ _ (told too_short.ensures if1.true),
-      (slice_kept plus_zero _ _ 6 (λ e. omega arith) refl, (slice_kept plus_zero _ _ 6 (λ e. omega arith) refl, (slice_kept plus_zero _ _ 6 (λ e. omega arith) refl, (slice_kept false _ _ 6 (λ e. omega arith) refl, (slice_kept plus_zero _ _ 6 (λ e. omega arith) refl, slice_kept false _ _ 6 (λ e. omega arith) refl))))),
-    )
+    let too_short = c.too_short in record {
+      answer = number-6 _ _ (told too_short.ensures if1.true);
+      values = slice_kept plus_zero _ _ 6 (λ e. omega arith) refl;
+      ucl = slice_kept plus_zero _ _ 6 (λ e. omega arith) refl;
+      lcl = slice_kept plus_zero _ _ 6 (λ e. omega arith) refl;
+      out = slice_kept false _ _ 6 (λ e. omega arith) refl;
+      z = slice_kept plus_zero _ _ 6 (λ e. omega arith) refl;
+      has_z = slice_kept false _ _ 6 (λ e. omega arith) refl;
+    }
 
 -- where no slice is too short, each has room for the points
 room : (c : Else-too_short)
@@ -35,67 +40,27 @@ room c =
 
 pub slice_bounds-fill_all-end : goal.slice_bounds-fill_all-end
 slice_bounds-fill_all-end c =
-    (room (goal.at.slice_bounds-fill_all-end c).After-too_short).in-values
+    (room c).in-values
 
 pub slice_bounds-fill_all-end-2 : goal.slice_bounds-fill_all-end-2
 slice_bounds-fill_all-end-2 c =
-    (room (goal.at.slice_bounds-fill_all-end-2 c).After-too_short).in-ucl
+    (room (goal.at.slice_bounds-fill_all-end-2 c).Else-too_short).in-ucl
 
 pub slice_bounds-fill_all-end-3 : goal.slice_bounds-fill_all-end-3
 slice_bounds-fill_all-end-3 c =
-    (room (goal.at.slice_bounds-fill_all-end-3 c).After-too_short).in-lcl
+    (room (goal.at.slice_bounds-fill_all-end-3 c).Else-too_short).in-lcl
 
 pub slice_bounds-fill_all-end-4 : goal.slice_bounds-fill_all-end-4
 slice_bounds-fill_all-end-4 c =
-    (room (goal.at.slice_bounds-fill_all-end-4 c).After-too_short).in-out
+    (room (goal.at.slice_bounds-fill_all-end-4 c).Else-too_short).in-out
 
 pub slice_bounds-fill_all-end-5 : goal.slice_bounds-fill_all-end-5
 slice_bounds-fill_all-end-5 c =
-    (room (goal.at.slice_bounds-fill_all-end-5 c).After-too_short).in-z
+    (room (goal.at.slice_bounds-fill_all-end-5 c).Else-too_short).in-z
 
 pub slice_bounds-fill_all-end-6 : goal.slice_bounds-fill_all-end-6
 slice_bounds-fill_all-end-6 c =
-    (room (goal.at.slice_bounds-fill_all-end-6 c).After-too_short).in-has-z
-
-pub shape_of-values-then-not-sound : goal.shape_of-values-then-not-sound
-shape_of-values-then-not-sound c =
-    let zero-all = c.zero_all in
-    zero-all.auto.0
-
-pub shape_of-ucl-then-not-sound : goal.shape_of-ucl-then-not-sound
-shape_of-ucl-then-not-sound c =
-    let zero-all = c.zero_all in
-    let fill-all = c.fill_all-sound in
-    let args = back3.before.before.before.before.before.before.before.args in
-    zero-all.auto.1.0 ∙ length_front args.ucl.now fill-all.new.1.1.0 (args.n - 0) fill-all.auto.1.1.0
-
-pub shape_of-lcl-then-not-sound : goal.shape_of-lcl-then-not-sound
-shape_of-lcl-then-not-sound c =
-    let zero-all = c.zero_all in
-    let fill-all = c.fill_all-sound in
-    let args = back3.before.before.before.before.before.before.before.args in
-    zero-all.auto.1.1.0 ∙ length_front args.lcl.now fill-all.new.1.1.1.0 (args.n - 0) fill-all.auto.1.1.1.0
-
-pub shape_of-out-then-not-sound : goal.shape_of-out-then-not-sound
-shape_of-out-then-not-sound c =
-    let zero-all = c.zero_all in
-    let fill-all = c.fill_all-sound in
-    let args = back3.before.before.before.before.before.before.before.args in
-    zero-all.auto.1.1.1.0 ∙ length_front args.out.now fill-all.new.1.1.1.1.0 (args.n - 0) fill-all.auto.1.1.1.1.0
-
-pub shape_of-z-then-not-sound : goal.shape_of-z-then-not-sound
-shape_of-z-then-not-sound c =
-    let zero-all = c.zero_all in
-    let fill-all = c.fill_all-sound in
-    let args = back3.before.before.before.before.before.before.before.args in
-    zero-all.auto.1.1.1.1.0 ∙ length_front args.z.now fill-all.new.1.1.1.1.1.0 (args.n - 0) fill-all.auto.1.1.1.1.1.0
-
-pub shape_of-has_z-then-not-sound : goal.shape_of-has_z-then-not-sound
-shape_of-has_z-then-not-sound c =
-    let zero-all = c.zero_all in
-    let fill-all = c.fill_all-sound in
-    let args = back3.before.before.before.before.before.before.before.args in
-    zero-all.auto.1.1.1.1.1.0 ∙ length_front args.has-z.now fill-all.new.1.1.1.1.1.1.0 (args.n - 0) fill-all.auto.1.1.1.1.1.1.0
+    (room (goal.at.slice_bounds-fill_all-end-6 c).Else-too_short).in-has-z
 
 pub returns-then-not-sound : goal.returns-then-not-sound
 returns-then-not-sound c =
@@ -104,47 +69,22 @@ returns-then-not-sound c =
     let fill-all = c.fill_all-sound in
     let if1 = c.if-too_short in
     let too_short = c.too_short in
-    let args = back3.before.before.before.before.before.before.before.args in
+    let args = c.args in
     let values = args.values.now in
     let ucl = args.ucl.now in
     let n = args.n in
     let g = plot_from args.cl n values ucl in
     let parts = plot-of-parts args.cl n values ucl in
     let e = fill-all.ensures in
-    let fine = told too_short.ensures if1.false in (
-      number-7 _ g fine (sym (e.0 ∙ ap sound parts) ∙ not-true fill-all.result if2.true),
-      (slice-7 plus_zero (take n values) values values refl zero-all.ensures.0, (part-zeroed plus_zero n (uppers g) fill-all.new.1.1.0 args.ucl.now fill-all.auto.1.1.0 zero-all.ensures.1.0, (part-zeroed plus_zero n (lowers g) fill-all.new.1.1.1.0 args.lcl.now fill-all.auto.1.1.1.0 zero-all.ensures.1.1.0, (part-zeroed false n (outs g) fill-all.new.1.1.1.1.0 args.out.now fill-all.auto.1.1.1.1.0 zero-all.ensures.1.1.1.0, (part-zeroed plus_zero n (zs g) fill-all.new.1.1.1.1.1.0 args.z.now fill-all.auto.1.1.1.1.1.0 zero-all.ensures.1.1.1.1.0, part-zeroed false n (has_zs g) fill-all.new.1.1.1.1.1.1.0 args.has-z.now fill-all.auto.1.1.1.1.1.1.0 zero-all.ensures.1.1.1.1.1))))),
-    )
-
-pub shape_of-ucl : goal.shape_of-ucl
-shape_of-ucl c =
-    let fill-all = c.fill_all-sound in
-    let args = back2.before.args in
-    length_front args.ucl.now fill-all.new.1.1.0 (args.n - 0) fill-all.auto.1.1.0
-
-pub shape_of-lcl : goal.shape_of-lcl
-shape_of-lcl c =
-    let fill-all = c.fill_all-sound in
-    let args = back2.before.args in
-    length_front args.lcl.now fill-all.new.1.1.1.0 (args.n - 0) fill-all.auto.1.1.1.0
-
-pub shape_of-out : goal.shape_of-out
-shape_of-out c =
-    let fill-all = c.fill_all-sound in
-    let args = back2.before.args in
-    length_front args.out.now fill-all.new.1.1.1.1.0 (args.n - 0) fill-all.auto.1.1.1.1.0
-
-pub shape_of-z : goal.shape_of-z
-shape_of-z c =
-    let fill-all = c.fill_all-sound in
-    let args = back2.before.args in
-    length_front args.z.now fill-all.new.1.1.1.1.1.0 (args.n - 0) fill-all.auto.1.1.1.1.1.0
-
-pub shape_of-has_z : goal.shape_of-has_z
-shape_of-has_z c =
-    let fill-all = c.fill_all-sound in
-    let args = back2.before.args in
-    length_front args.has-z.now fill-all.new.1.1.1.1.1.1.0 (args.n - 0) fill-all.auto.1.1.1.1.1.1.0
+    let fine = told too_short.ensures if1.false in record {
+      answer = number-7 _ g fine (sym (e.0 ∙ ap sound parts) ∙ not-true fill-all.result if2.true);
+      values = slice-7 plus_zero (take n values) values values refl zero-all.ensures.0;
+      ucl = part-zeroed plus_zero n (uppers g) fill-all.new.1.1.0 args.ucl.now fill-all.auto.1.1.0 zero-all.ensures.1.0;
+      lcl = part-zeroed plus_zero n (lowers g) fill-all.new.1.1.1.0 args.lcl.now fill-all.auto.1.1.1.0 zero-all.ensures.1.1.0;
+      out = part-zeroed false n (outs g) fill-all.new.1.1.1.1.0 args.out.now fill-all.auto.1.1.1.1.0 zero-all.ensures.1.1.1.0;
+      z = part-zeroed plus_zero n (zs g) fill-all.new.1.1.1.1.1.0 args.z.now fill-all.auto.1.1.1.1.1.0 zero-all.ensures.1.1.1.1.0;
+      has_z = part-zeroed false n (has_zs g) fill-all.new.1.1.1.1.1.1.0 args.has-z.now fill-all.auto.1.1.1.1.1.1.0 zero-all.ensures.1.1.1.1.1;
+    }
 
 pub returns : goal.returns
 returns c =
@@ -152,7 +92,7 @@ returns c =
     let fill-all = c.fill_all-sound in
     let if1 = c.if-too_short in
     let too_short = c.too_short in
-    let args = back2.before.args in
+    let args = c.args in
     let values = args.values.now in
     let ucl = args.ucl.now in
     let n = args.n in
@@ -161,7 +101,12 @@ returns c =
     let e = fill-all.ensures in
     let fine = told too_short.ensures if1.false in
     let room = has_room _ _ _ _ _ _ _ fine in
-    let long = length-take-le n values room.in-values in (
-      number-0 _ g fine (sym (e.0 ∙ ap sound parts) ∙ not-false fill-all.result if2.false),
-      (front_kept plus_zero n values room.in-values, (part-written plus_zero n (uppers g) fill-all.new.1.1.0 args.ucl.now (e.1.0 ∙ ap uppers parts) (column-length (λ p. p.ucl) g ∙ long), (part-written plus_zero n (lowers g) fill-all.new.1.1.1.0 args.lcl.now (e.1.1.0 ∙ ap lowers parts) (column-length (λ p. p.lcl) g ∙ long), (part-written false n (outs g) fill-all.new.1.1.1.1.0 args.out.now (e.1.1.1.0 ∙ ap outs parts) (column-length (λ p. p.out_of_control) g ∙ long), (part-written plus_zero n (zs g) fill-all.new.1.1.1.1.1.0 args.z.now (e.1.1.1.1.0 ∙ ap zs parts) (column-length (λ p. p.z) g ∙ long), part-written false n (has_zs g) fill-all.new.1.1.1.1.1.1.0 args.has-z.now (e.1.1.1.1.1 ∙ ap has_zs parts) (column-length (λ p. p.has_z) g ∙ long)))))),
-    )
+    let long = length-take-le n values room.in-values in record {
+      answer = number-0 _ g fine (sym (e.0 ∙ ap sound parts) ∙ not-false fill-all.result if2.false);
+      values = front_kept plus_zero n values room.in-values;
+      ucl = part-written plus_zero n (uppers g) fill-all.new.1.1.0 args.ucl.now (e.1.0 ∙ ap uppers parts) (column-length (λ p. p.ucl) g ∙ long);
+      lcl = part-written plus_zero n (lowers g) fill-all.new.1.1.1.0 args.lcl.now (e.1.1.0 ∙ ap lowers parts) (column-length (λ p. p.lcl) g ∙ long);
+      out = part-written false n (outs g) fill-all.new.1.1.1.1.0 args.out.now (e.1.1.1.0 ∙ ap outs parts) (column-length (λ p. p.out_of_control) g ∙ long);
+      z = part-written plus_zero n (zs g) fill-all.new.1.1.1.1.1.0 args.z.now (e.1.1.1.1.0 ∙ ap zs parts) (column-length (λ p. p.z) g ∙ long);
+      has_z = part-written false n (has_zs g) fill-all.new.1.1.1.1.1.1.0 args.has-z.now (e.1.1.1.1.1 ∙ ap has_zs parts) (column-length (λ p. p.has_z) g ∙ long);
+    }

@@ -7,4 +7,4 @@ use Rattle.replay_charts.proofs.hold_answer.Goals as goal
 
 pub returns : goal.returns
 returns c =
-    only_then (put-stands c.put_answer-end.ensures (omega (arith, c.if-end-gt100000.false, c.put_answer-end.auto.0))) c.hold.result c.hold.ensures
+    only_then (put-stands c.put_answer-end.ensures (omega (arith, c.if-end-gt100000.false, c.put_answer-end.auto.out))) c.hold.result c.hold.ensures

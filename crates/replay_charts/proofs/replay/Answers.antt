@@ -7,4 +7,4 @@ use Rattle.replay_charts.proofs.replay.Goals as goal
 
 pub loop-run-smaller : goal.loop-run-smaller
 loop-run-smaller c =
-    c.past-run.ensures.1 c.loop-run-test.true
+    c.past-run.ensures.fewer c.loop-run-test.true

@@ -6,8 +6,8 @@ use Rattle.replay_charts.proofs.replay_chart.Goals as goal
 
 pub fill_head-requires : goal.fill_head-requires
 fill_head-requires c =
-    (subst Within c.head-1.given.1 c.read_head.ensures.1).0
+    (subst Within c.in-Read.is c.read_head.ensures.within).0
 
 pub replay_answer-requires : goal.replay_answer-requires
 replay_answer-requires c =
-    (subst Within c.head-1.given.1 c.read_head.ensures.1).1
+    (subst Within c.in-Read.is c.read_head.ensures.within).1

@@ -4,4 +4,4 @@ use Rattle.replay_marks.proofs.judge.Goals as goal
 
 pub returns : goal.returns
 returns c =
-    rw (← c.mark.ensures.0, ← c.number-number.ensures) c.hold.ensures
+    rw (← c.mark.ensures.answer, ← c.number-number.ensures) c.hold.ensures

@@ -5,4 +5,4 @@ use Rattle.replay_marks.proofs.replay.Goals as goal
 
 pub loop-run-smaller : goal.loop-run-smaller
 loop-run-smaller c =
-    c.past-run.ensures.1 c.loop-run-test.true
+    c.past-run.ensures.fewer c.loop-run-test.true

@@ -7,4 +7,4 @@ use Rattle.replay_marks.proofs.replay_stopped.Goals as goal
 
 pub slice_bounds-stops-end : goal.slice_bounds-stops-end
 slice_bounds-stops-end c =
-    omega (arith, subst (AtMost 4096) c.count-1.given.1 c.read_small-2.ensures.1)
+    omega (arith, subst (AtMost 4096) c.in-Read-read_small.is c.read_small-2.ensures.most)

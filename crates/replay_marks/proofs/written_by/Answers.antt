@@ -5,8 +5,14 @@ use Rattle.replay_marks.proofs.written_by.Goals as goal
 
 pub returns-then-number-eq0 : goal.returns-then-number-eq0
 returns-then-number-eq0 c =
-    (rw (eq-eqb _ _ c.if-number-eq0.true), omega arith)
+    record {
+      value = rw (eq-eqb _ _ c.if-number-eq0.true);
+      few = omega arith;
+    }
 
 pub returns : goal.returns
 returns c =
-    (rw (ne_eqb _ _ c.if-number-eq0.false), omega arith)
+    record {
+      value = rw (ne_eqb _ _ c.if-number-eq0.false);
+      few = omega arith;
+    }

@@ -7,11 +7,13 @@ use Rattle.reports.proofs.refuse.Goals as goal
 pub returns-then-out-n : goal.returns-then-out-n
 returns-then-out-n c =
     let args = c.args in
-    told-short (r_line args.why) args.out.now _ _ c.put_refusal-n.ensures c.if-out-n.true
+    let all = told-short (r_line args.why) args.out.now _ _ c.put_refusal-n.ensures c.if-out-n.true in
+    record { answer = all.0; room = all.1 }
 
 pub returns : goal.returns
 returns c =
     let args = c.args in
     let put-refusal = c.put_refusal-n in
     let if1 = c.if-out-n in
-    told-whole (r_line args.why) args.out.now _ _ put-refusal.ensures if1.false _ _ c.put_refusal.ensures
+    let all = told-whole (r_line args.why) args.out.now _ _ put-refusal.ensures if1.false _ _ c.put_refusal.ensures in
+    record { answer = all.0; room = all.1 }

@@ -16,7 +16,7 @@ use Rattle.root.proofs.root.Goals as goal
 -- an `f64` that the code holds is one of the format
 held : (c : Start) → T (fits binary64 c.args.x)
 held c =
-    subst T (sym c.well-formed.0.1) tt
+    subst T (sym c.well_formed.0.1) tt
 
 -- both clauses of the contract
 abbrev Answers : (x : Float) (a : Rooted) → Type 0
@@ -38,7 +38,8 @@ by_zero x b t e p =
 
 pub returns-then-x : goal.returns-then-x
 returns-then-x c =
-    both c.args.x Refused (held (goal.at.returns-then-x c).Start) (refused-nan c.args.x c.if-x.true)
+    let all = both c.args.x Refused (held (goal.at.returns-then-x c).Start) (refused-nan c.args.x c.if-x.true) in
+    record { nearest = all.0; is = all.1 }
 
 pub float_to_bits-b : goal.float_to_bits-b
 float_to_bits-b c =
@@ -46,11 +47,13 @@ float_to_bits-b c =
 
 pub returns-then-b-eq0 : goal.returns-then-b-eq0
 returns-then-b-eq0 c =
-    by_zero c.args.x 0 (held (goal.at.returns-then-b-eq0 c).Start) c.if-b-eq0.true allowed-zero
+    let all = by_zero c.args.x 0 (held (goal.at.returns-then-b-eq0 c).Start) c.if-b-eq0.true allowed-zero in
+    record { nearest = all.0; is = all.1 }
 
 pub returns-then-b : goal.returns-then-b
 returns-then-b c =
-    by_zero c.args.x 0x8000000000000000 (held (goal.at.returns-then-b c).Start) (omega (arith, c.if-b.true)) allowed-minus-zero
+    let all = by_zero c.args.x 0x8000000000000000 (held (goal.at.returns-then-b c).Start) (omega (arith, c.if-b.true)) allowed-minus-zero in
+    record { nearest = all.0; is = all.1 }
 
 pub float_from_bits-result : goal.float_from_bits-result
 float_from_bits-result c =
@@ -62,9 +65,11 @@ returns-then-b-lt-INFINITY c =
     let b = to_bits binary64 x in
     let r = of_bits binary64 c.root_bits.result in
     let above = above_zero b (omega (arith, c.if-b-eq0.false)) c.if-b-lt-INFINITY.true in
-    by_bits x (Root r) (held (goal.at.returns-then-b-lt-INFINITY c).Start) (allowed-root (of_bits binary64 b) r above c.root_bits.ensures.root)
+    let all = by_bits x (Root r) (held (goal.at.returns-then-b-lt-INFINITY c).Start) (allowed-root (of_bits binary64 b) r above c.root_bits.ensures.root) in
+    record { nearest = all.0; is = all.1 }
 
 pub returns-else-b-lt-INFINITY : goal.returns-else-b-lt-INFINITY
 returns-else-b-lt-INFINITY c =
     let x = c.args.x in
-    by_bits x Refused (held (goal.at.returns-else-b-lt-INFINITY c).Start) (refused-from (to_bits binary64 x) c.if-b-lt-INFINITY.false c.if-b.false (to_bits-lt binary64 x (held (goal.at.returns-else-b-lt-INFINITY c).Start)))
+    let all = by_bits x Refused (held (goal.at.returns-else-b-lt-INFINITY c).Start) (refused-from (to_bits binary64 x) c.if-b-lt-INFINITY.false c.if-b.false (to_bits-lt binary64 x (held (goal.at.returns-else-b-lt-INFINITY c).Start))) in
+    record { nearest = all.0; is = all.1 }

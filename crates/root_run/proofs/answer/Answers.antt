@@ -11,12 +11,12 @@ use Rattle.root_run.proofs.answer.Goals as goal
 pub float_to_bits-result : goal.float_to_bits-result
 float_to_bits-result c =
     let x = c.number.result in
-    allowed-number x c.r-1.given.0.0 (subst (λ (a : Rooted). Allowed x (numbered a)) c.r-1.given.1 c.root.ensures.0)
+    allowed-number x c.in-Root.r (subst (λ (a : Rooted). Allowed x (numbered a)) c.in-Root.is c.root.ensures.nearest)
 
 pub returns-in-Root : goal.returns-in-Root
 returns-in-Root c =
-    sym (ap stored c.r-1.given.1) ∙ ap stored c.root.ensures.1 ∙ ap (λ (x : Float). stored (root_of x)) c.number.ensures
+    sym (ap stored c.in-Root.is) ∙ ap stored c.root.ensures.is ∙ ap (λ (x : Float). stored (root_of x)) c.number.ensures
 
 pub returns-in-Refused : goal.returns-in-Refused
 returns-in-Refused c =
-    sym (ap stored c.enum_told-1.given.1) ∙ ap stored c.root.ensures.1 ∙ ap (λ (x : Float). stored (root_of x)) c.number.ensures
+    sym (ap stored c.in-Refused.is) ∙ ap stored c.root.ensures.is ∙ ap (λ (x : Float). stored (root_of x)) c.number.ensures

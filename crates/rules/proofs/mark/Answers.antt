@@ -22,8 +22,10 @@ returns-then-number-ne0 c =
     let values = args.values.now in
     let old = args.marks.now in
     let some : refusal terms set values ≡ 0 → ⊥ = λ e. c.if-number-ne0.true (number ∙ told ∙ e) in
-    let answer = answer-refused terms set values (length old) some in
-    (told ∙ sym answer, marks-kept terms set values old (λ e. some (sym answer ∙ e)))
+    let answer = answer-refused terms set values (length old) some in record {
+      answer = told ∙ sym answer;
+      marks = marks-kept terms set values old (λ e. some (sym answer ∙ e));
+    }
 
 pub returns-then-marks-values : goal.returns-then-marks-values
 returns-then-marks-values c =
@@ -33,8 +35,10 @@ returns-then-marks-values c =
     let values = args.values.now in
     let old = args.marks.now in
     let none = sym c.ahead-refused.ensures ∙ sym c.number.ensures ∙ c.if-number-ne0.false in
-    let answer = answer-short terms set values (length old) none c.if-marks-values.true in
-    (sym answer, marks-kept terms set values old (λ e. omega (arith, answer, e)))
+    let answer = answer-short terms set values (length old) none c.if-marks-values.true in record {
+      answer = sym answer;
+      marks = marks-kept terms set values old (λ e. omega (arith, answer, e));
+    }
 
 pub returns : goal.returns
 unfolding marks_of
@@ -45,9 +49,9 @@ returns c =
     let values = args.values.now in
     let old = args.marks.now in
     let none = sym c.ahead-refused.ensures ∙ sym c.number.ensures ∙ c.if-number-ne0.false in
-    let answer = answer-done terms set values (length old) none c.if-marks-values.false in (
-      sym answer,
-      parted _ set values args.stops.now args.moving old _ _ c.fill.ensures c.part.ensures
+    let answer = answer-done terms set values (length old) none c.if-marks-values.false in record {
+      answer = sym answer;
+      marks = parted _ set values args.stops.now args.moving old _ _ c.fill.ensures c.part.ensures
           ∙ ap (λ (l : Lines). at_front (marks_by (cuts_of terms) l set values) old) c.lines_of.ensures
-          ∙ marks-written terms set values old answer,
-    )
+          ∙ marks-written terms set values old answer;
+    }

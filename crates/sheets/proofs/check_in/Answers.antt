@@ -16,28 +16,20 @@ use borrow.Author.Rules.{rules}
 use Rattle.sheets.proofs.check_in.Goals.{In-Done}
 use Rattle.sheets.proofs.check_in.Goals as goal
 
--- what the call was given, and what marking made of it
-abbrev start : tie.After-enum-told → tie.Start
-start c = c.before.before.before.before.before.before.before.before.before.before
-
-abbrev terms : tie.Start → Terms
-terms s = under s.args.limits s.args.width s.args.stops.now s.args.moving
-
-done : (c : In-Done) → Made (terms (start c)) (start c).args.set.mask (start c).args.values.now (start c).args.marks.now c.mark.new.1.1.1.1.1.1.0
+done : (c : In-Done) → Made ((under c.args.limits c.args.width c.args.stops.now c.args.moving)) c.args.set.mask c.args.values.now c.args.marks.now c.mark.new.marks
 done c =
-    let s = start c in
     let mark = c.mark in
-    made (terms s) s.args.set.mask s.args.values.now s.args.marks.now _ mark.result s.pre mark.ensures.0
-    (ap numbered c.enum_told-1.given.1) mark.ensures.1
+    made ((under c.args.limits c.args.width c.args.stops.now c.args.moving)) c.args.set.mask c.args.values.now c.args.marks.now _ mark.result c.pre mark.ensures.0
+    (ap numbered c.in-Done.is) mark.ensures.1
 
 pub slice_bounds-check_marks-end : goal.slice_bounds-check_marks-end
 slice_bounds-check_marks-end c =
-    omega (arith, (done (goal.at.slice_bounds-check_marks-end c).In-Done-1).room, c.mark.auto.1.1.1.1.1.1.0)
+    omega (arith, (done c).room, c.mark.auto.marks)
 
 pub returns-in-Done : goal.returns-in-Done
 returns-in-Done c =
-    let all = done (goal.at.returns-in-Done c).In-Done-1 in
-    let args = c.before.before.before.before.before.before.before.before.before.before.before.before.before.args in
+    let all = done (goal.at.returns-in-Done c).In-Done in
+    let args = c.args in
     c.check_marks.ensures
     ∙ ap (λ (ms : List ℕ). judged args.set.mask ms (said args.sheet.now)) all.front
     ∙ check_done (under args.limits args.width args.stops.now args.moving) args.set.mask args.values.now all.none args.sheet.now
@@ -45,11 +37,11 @@ returns-in-Done c =
 pub returns-in-Refused : goal.returns-in-Refused
 returns-in-Refused c =
     let mark = c.mark in
-    let why = c.why-1.given in
-    let told = refusal_is (terms (goal.at.returns-in-Refused c).Start) c.args.set.mask c.args.values.now (length c.args.marks.now) c.requires mark.result
+    let why = c.in-Refused.given in
+    let told = refusal_is ((under c.args.limits c.args.width c.args.stops.now c.args.moving)) c.args.set.mask c.args.values.now (length c.args.marks.now) c.requires mark.result
     (Refused why.0.0) mark.ensures.0 why.1 in
-    let some : refusal (terms (goal.at.returns-in-Refused c).Start) c.args.set.mask c.args.values.now ≡ 0 → ⊥ = λ e. omega (arith, number-above why.0.0, told, e) in
-    ap plain (sym told) ∙ check-refused (terms (goal.at.returns-in-Refused c).Start) c.args.set.mask c.args.values.now some c.args.sheet.now
+    let some : refusal ((under c.args.limits c.args.width c.args.stops.now c.args.moving)) c.args.set.mask c.args.values.now ≡ 0 → ⊥ = λ e. omega (arith, number-above why.0.0, told, e) in
+    ap plain (sym told) ∙ check-refused ((under c.args.limits c.args.width c.args.stops.now c.args.moving)) c.args.set.mask c.args.values.now some c.args.sheet.now
 
 pub mark-requires : goal.mark-requires
 mark-requires c =
@@ -66,11 +58,3 @@ slice_bounds-check_marks-start c =
 pub check_marks-requires : goal.check_marks-requires
 check_marks-requires c =
     tt
-
-pub shape_of-marks-in-Done : goal.shape_of-marks-in-Done
-shape_of-marks-in-Done c =
-    omega arith
-
-pub shape_of-marks-in-Refused : goal.shape_of-marks-in-Refused
-shape_of-marks-in-Refused c =
-    omega arith

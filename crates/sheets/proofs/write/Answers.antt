@@ -8,7 +8,8 @@ write_in-requires c =
 
 pub returns-then-values-le-FEW : goal.returns-then-values-le-FEW
 returns-then-values-le-FEW c =
-    c.write_in.ensures
+    let all = c.write_in.ensures in
+    record { answer = all.0; room = all.1 }
 
 pub write_in-requires-2 : goal.write_in-requires-2
 write_in-requires-2 c =
@@ -16,7 +17,8 @@ write_in-requires-2 c =
 
 pub returns : goal.returns
 returns c =
-    c.write_in-2.ensures
+    let all = c.write_in-2.ensures in
+    record { answer = all.0; room = all.1 }
 
 pub slice_bounds-write_in-count : goal.slice_bounds-write_in-count
 slice_bounds-write_in-count c =
@@ -30,10 +32,6 @@ pub slice_bounds-marks-end : goal.slice_bounds-marks-end
 slice_bounds-marks-end c =
     omega arith
 
-pub shape_of-out-then-values-le-FEW : goal.shape_of-out-then-values-le-FEW
-shape_of-out-then-values-le-FEW c =
-    omega arith
-
 pub slice_bounds-write_in-count-2 : goal.slice_bounds-write_in-count-2
 slice_bounds-write_in-count-2 c =
     omega arith
@@ -44,8 +42,4 @@ slice_bounds-marks-start-2 c =
 
 pub slice_bounds-marks-end-2 : goal.slice_bounds-marks-end-2
 slice_bounds-marks-end-2 c =
-    omega arith
-
-pub shape_of-out : goal.shape_of-out
-shape_of-out c =
     omega arith

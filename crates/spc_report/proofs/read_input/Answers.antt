@@ -11,14 +11,14 @@ use Rattle.spc_report.proofs.read_input.Goals as goal
 pub overflow_add-done : goal.overflow_add-done
 overflow_add-done c =
     let some = c.read_some in
-    omega (arith, within (length some.new.0) c.n-1.given.1 some.ensures, some.auto)
+    omega (arith, within (length some.new.0) c.in-Bytes.is some.ensures, some.auto)
 
 pub loop-done-smaller : goal.loop-done-smaller
 loop-done-smaller c =
     let some = c.read_some in
-    omega (arith, within (length some.new.0) c.n-1.given.1 some.ensures, some.auto)
+    omega (arith, within (length some.new.0) c.in-Bytes.is some.ensures, some.auto)
 
 pub loop-done-preserved : goal.loop-done-preserved
 loop-done-preserved c =
     let some = c.read_some in
-    (omega (arith, within (length some.new.0) c.n-1.given.1 some.ensures, some.auto), search rules)
+    (omega (arith, within (length some.new.0) c.in-Bytes.is some.ensures, some.auto), search rules)

@@ -12,13 +12,17 @@ pub returns-in-Text : goal.returns-in-Text
 returns-in-Text c =
     let report = c.report in
     let told = always-text c.args.input.now c.args.out.now c.requires report.result report.ensures.0 in
-    let whole : c.len-1.given.0.0 ≡ length (text_of c.args.input.now) = cc in
-    let written = always-written c.args.input.now c.args.out.now c.requires report.new.1.0 report.ensures.1 in
-    (whole, (written, omega (arith, report.auto, c.requires, text-short c.args.input.now)))
+    let whole : c.in-Text.len ≡ length (text_of c.args.input.now) = cc in
+    let written = always-written c.args.input.now c.args.out.now c.requires report.new.1.0 report.ensures.1 in record {
+      length = whole;
+      text = written;
+      within = omega (arith, report.auto, c.requires, text-short c.args.input.now);
+    }
 
 pub returns-in-TooShort : goal.returns-in-TooShort
 returns-in-TooShort c =
     let report = c.report in
     let told = always-text c.args.input.now c.args.out.now c.requires report.result report.ensures.0 in
     let never : ◌≡◌ {A = ℕ} 0 1 = cc in
-    absurd (omega arith)
+    let all = absurd (omega arith) in
+    record { length = all.0; text = all.1.0; within = all.1.1 }

@@ -9,7 +9,8 @@ mark_in-requires c =
 
 pub returns-then-values : goal.returns-then-values
 returns-then-values c =
-    c.mark_in.ensures
+    let all = c.mark_in.ensures in
+    record { answer = all.0; marks = all.1 }
 
 pub mark_in-requires-2 : goal.mark_in-requires-2
 mark_in-requires-2 c =
@@ -17,4 +18,5 @@ mark_in-requires-2 c =
 
 pub returns : goal.returns
 returns c =
-    c.mark_in-2.ensures
+    let all = c.mark_in-2.ensures in
+    record { answer = all.0; marks = all.1 }

@@ -10,11 +10,11 @@ use Rattle.twin.proofs.dramulenz_root.Goals as goal
 pub returns-in-Root : goal.returns-in-Root
 unfolding root_number
 returns-in-Root c =
-    sym (ap (λ (r : Rooted). (numbered r).1) c.r-1.given.1)
-    ∙ ap (λ (r : Rooted). (numbered r).1) c.root.ensures.1
+    sym (ap (λ (r : Rooted). (numbered r).1) c.in-Root.is)
+    ∙ ap (λ (r : Rooted). (numbered r).1) c.root.ensures.is
 
 pub returns-in-Refused : goal.returns-in-Refused
 unfolding root_number of_bits
 returns-in-Refused c =
-    sym (ap (λ (r : Rooted). (numbered r).1) c.enum_told-1.given.1)
-    ∙ ap (λ (r : Rooted). (numbered r).1) c.root.ensures.1
+    sym (ap (λ (r : Rooted). (numbered r).1) c.in-Refused.is)
+    ∙ ap (λ (r : Rooted). (numbered r).1) c.root.ensures.is

@@ -9,7 +9,8 @@ write_in-requires c =
 
 pub returns-then-values : goal.returns-then-values
 returns-then-values c =
-    c.write_in.ensures
+    let all = c.write_in.ensures in
+    record { answer = all.0; room = all.1 }
 
 pub write_in-requires-2 : goal.write_in-requires-2
 write_in-requires-2 c =
@@ -17,4 +18,5 @@ write_in-requires-2 c =
 
 pub returns : goal.returns
 returns c =
-    c.write_in-2.ensures
+    let all = c.write_in-2.ensures in
+    record { answer = all.0; room = all.1 }

@@ -23,19 +23,20 @@ returns-then-refused-ne0 c =
     let bs = args.values.now in
     let terms = unstopped args.limits in
     let read = c.read_values-refused in
-    mark-stops args.limits args.set bs read.result read.ensures.0 c.if-refused-ne0.true args.marks.now
+    let all = mark-stops args.limits args.set bs read.result read.ensures.0 c.if-refused-ne0.true args.marks.now in
+    record { answer = all.0; marks = all.1 }
 
 pub slice_bounds-mark_values-end : goal.slice_bounds-mark_values-end
 slice_bounds-mark_values-end c =
-    let args = c.before.before.before.before.before.before.before.before.before.before.args in
+    let args = c.args in
     let bs = args.values.now in
     let read = c.read_values-refused in
     let started = sym read.ensures.0 ∙ c.if-refused-ne0.false in
-    omega (arith, c.before.before.before.before.before.before.before.before.before.before.requires.0 (begun bs args.set started).few, read.auto.1.1.0)
+    omega (arith, c.requires.0 (begun bs args.set started).few, read.auto.1.1.0)
 
 pub overflow_cast-set : goal.overflow_cast-set
 overflow_cast-set c =
-    let args = c.before.before.before.before.before.before.before.before.before.before.before.args in
+    let args = c.args in
     let bs = args.values.now in
     let read = c.read_values-refused in
     let started = sym read.ensures.0 ∙ c.if-refused-ne0.false in
@@ -43,24 +44,24 @@ overflow_cast-set c =
 
 pub mark_values-requires : goal.mark_values-requires
 mark_values-requires c =
-    let args = c.before.before.before.before.before.before.before.before.before.before.before.before.before.args in
+    let args = c.args in
     let bs = args.values.now in
     let read = c.read_values-refused in
     let started = sym read.ensures.0 ∙ c.if-refused-ne0.false in
     let values = values-front bs args.set started _ read.new.1.1.0 (length bs / 8 - 0) (omega arith) read.ensures.1 in
     let count = ap length values ∙ length-floats bs in
-    omega (arith, count, c.before.before.before.before.before.before.before.before.before.before.before.before.before.requires.1 (omega (arith, count, few)))
+    omega (arith, count, c.requires.1 (omega (arith, count, few)))
 
 pub returns : goal.returns
 returns c =
-    let args = c.before.before.before.before.before.before.before.before.before.before.before.before.before.before.before.before.before.before.args in
+    let args = c.args in
     let bs = args.values.now in
     let terms = unstopped args.limits in
     let read = c.read_values-refused in
     let started = sym read.ensures.0 ∙ c.if-refused-ne0.false in
     let values = values-front bs args.set started _ read.new.1.1.0 (length bs / 8 - 0) (omega arith) read.ensures.1 in
     let mark = c.mark_values.ensures in
-    let goes = mark-goes args.limits args.set bs started args.marks.now in (
-      mark.0 ∙ ap (λ (vs : List Float). answer_of terms args.set vs (length args.marks.now / 2)) values ∙ goes.0,
-      mark.1 ∙ ap (λ (vs : List Float). bytes_after terms args.set vs args.marks.now) values ∙ goes.1,
-    )
+    let goes = mark-goes args.limits args.set bs started args.marks.now in record {
+      answer = mark.0 ∙ ap (λ (vs : List Float). answer_of terms args.set vs (length args.marks.now / 2)) values ∙ goes.0;
+      marks = mark.1 ∙ ap (λ (vs : List Float). bytes_after terms args.set vs args.marks.now) values ∙ goes.1;
+    }

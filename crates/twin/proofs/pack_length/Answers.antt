@@ -10,16 +10,16 @@ use Rattle.twin.proofs.pack_length.Goals as goal
 
 pub overflow_mul-result : goal.overflow_mul-result
 overflow_mul-result c =
-    let fits = subst (λ (a : Written). packed_length (written a) < 2 ^ 64) c.w-1.given.1 c.requires in
+    let fits = subst (λ (a : Written). packed_length (written a) < 2 ^ 64) c.in-Sheet.is c.requires in
     omega (arith, fits)
 
 pub returns-in-Sheet : goal.returns-in-Sheet
 returns-in-Sheet c =
-    omega (arith, ap (λ (a : Written). packed_length (written a)) c.w-1.given.1)
+    omega (arith, ap (λ (a : Written). packed_length (written a)) c.in-Sheet.is)
 
 pub returns-in-Refused : goal.returns-in-Refused
 returns-in-Refused c =
-    omega (arith, ap (λ (a : Written). packed_length (written a)) c.w-in-Refused-1.given.1, c.number.ensures, c.wide.ensures.0)
+    omega (arith, ap (λ (a : Written). packed_length (written a)) c.in-Refused.is, c.number.ensures, c.wide.ensures.0)
 
 pub number-requires : goal.number-requires
 number-requires c =

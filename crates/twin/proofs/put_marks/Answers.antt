@@ -44,12 +44,6 @@ loop-i-preserved c =
     (omega arith) (high.ensures ∙ sym (high_byte args.ms.now loop.i here)) in
     subst (Filling bytes args.out.now (set (set loop.out (2 * loop.i) low.result) (2 * loop.i + 1) high.result)) two second
 
-pub shape_of-out : goal.shape_of-out
-shape_of-out c =
-    let args = c.args in
-    let loop = c.loop-i in
-    filling-length (bytes_of args.ms.now) args.out.now loop.out (2 * loop.i) loop.invariant
-
 pub returns : goal.returns
 returns c =
     let args = c.args in

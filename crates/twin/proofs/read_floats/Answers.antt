@@ -37,13 +37,6 @@ loop-i-preserved c =
     tabling-goes-on (float_at b) (length b / 8) args.out.now loop.out loop.i loop.invariant c.of_bits.result
     c.loop-i-test.true (c.of_bits.ensures ∙ ap (of_bits binary64) c.word.ensures)
 
-pub shape_of-out : goal.shape_of-out
-shape_of-out c =
-    let args = c.args in
-    let loop = c.loop-i in
-    let b = args.b.now in
-    tabling-length (float_at b) (length b / 8) args.out.now loop.out loop.i loop.invariant
-
 pub returns : goal.returns
 unfolding floats_of
 returns c =

@@ -12,17 +12,20 @@ use Rattle.twin.proofs.read_values.Goals as goal
 pub returns-then-b-ne0 : goal.returns-then-b-ne0
 unfolding early values_after first_of
 returns-then-b-ne0 c =
-    simp (ne_eqb (length c.args.b.now % 8) 0 (λ e. omega arith)) (refl, refl)
+    let all = simp (ne_eqb (length c.args.b.now % 8) 0 (λ e. omega arith)) (refl, refl) in
+    record { value = all.0; vs_after = all.1 }
 
 pub returns-then-b-gt-MOST : goal.returns-then-b-gt-MOST
 unfolding early values_after first_of
 returns-then-b-gt-MOST c =
-    simp (eq-eqb _ _ c.if-b-ne0.false, lt-ltb _ _ c.if-b-gt-MOST.true) (refl, refl)
+    let all = simp (eq-eqb _ _ c.if-b-ne0.false, lt-ltb _ _ c.if-b-gt-MOST.true) (refl, refl) in
+    record { value = all.0; vs_after = all.1 }
 
 pub returns-then-set : goal.returns-then-set
 unfolding early values_after first_of
 returns-then-set c =
-    simp (eq-eqb _ _ c.if-b-ne0.false, le-ltb _ _ c.if-b-gt-MOST.false, lt-ltb _ _ c.if-set.true) (refl, refl)
+    let all = simp (eq-eqb _ _ c.if-b-ne0.false, le-ltb _ _ c.if-b-gt-MOST.false, lt-ltb _ _ c.if-set.true) (refl, refl) in
+    record { value = all.0; vs_after = all.1 }
 
 pub overflow_cast-t-7 : goal.overflow_cast-t-7
 overflow_cast-t-7 c =
@@ -38,4 +41,5 @@ returns c =
     let if1 = c.if-b-ne0 in
     let if2 = c.if-b-gt-MOST in
     let if3 = c.if-set in
-    simp (eq-eqb _ _ if1.false, le-ltb _ _ if2.false, le-ltb _ _ if3.false) (refl, c.read_floats.ensures)
+    let all = simp (eq-eqb _ _ if1.false, le-ltb _ _ if2.false, le-ltb _ _ if3.false) (refl, c.read_floats.ensures) in
+    record { value = all.0; vs_after = all.1 }

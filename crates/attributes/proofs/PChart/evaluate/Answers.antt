@@ -16,7 +16,7 @@ use Rattle.attributes.proofs.PChart.evaluate.Goals as goal
 passed : (c : In-Passed) → Ahead c.wrong-wrong.result c.args.self.count c.too_short-short.result
 passed c =
     were-ahead c.wrong-wrong.result c.args.self.count c.too_short-short.result
-    (sym c.check.ensures ∙ ap tested c.enum_told-1.given.1)
+    (sym c.check.ensures ∙ ap tested c.in-Passed.is)
 
 record-right : (c : In-Passed) → let args = c.args in wrong_p args.self args.counts.now args.sizes.now ≡ false
 record-right c =
@@ -47,7 +47,7 @@ evaluate-requires c =
 pub returns-in-Refused : goal.returns-in-Refused
 unfolding evaluate_p
 returns-in-Refused c =
-    let why = c.why-1 in
+    let why = c.in-Refused in
     let check = c.check in
     let too_short = c.too_short-short in
     let wrong = c.wrong-wrong in
@@ -55,41 +55,15 @@ returns-in-Refused c =
     let n = args.self.count in
     let g = plot_p args.self args.counts.now args.sizes.now in
     let is = why.given.1 in
-    let found = check.ensures ∙ ap₂ (λ (w s : Bool). first_of (ahead w n s) 0) wrong.ensures too_short.ensures in (
-      answer-refused _ n _ g is found _,
-      (slice-refused _ n _ g is found plus_zero _ _, (slice-refused _ n _ g is found plus_zero _ _, (slice-refused _ n _ g is found plus_zero _ _, (slice-refused _ n _ g is found false _ _, (slice-refused _ n _ g is found plus_zero _ _, slice-refused _ n _ g is found false _ _))))),
-    )
-
-pub shape_of-values : goal.shape_of-values
-shape_of-values c =
-    let evaluate = c.evaluate in
-    evaluate.auto.1.1.1.1.0
-
-pub shape_of-ucl : goal.shape_of-ucl
-shape_of-ucl c =
-    let evaluate = c.evaluate in
-    let fill-sizes = c.fill_sizes in
-    evaluate.auto.1.1.1.1.1.0 ∙ fill-sizes.auto.1.1.0
-
-pub shape_of-lcl : goal.shape_of-lcl
-shape_of-lcl c =
-    let evaluate = c.evaluate in
-    evaluate.auto.1.1.1.1.1.1.0
-
-pub shape_of-out : goal.shape_of-out
-shape_of-out c =
-    let evaluate = c.evaluate in
-    evaluate.auto.1.1.1.1.1.1.1.0
-
-pub shape_of-z : goal.shape_of-z
-shape_of-z c =
-    let evaluate = c.evaluate in
-    evaluate.auto.1.1.1.1.1.1.1.1.0
-
-pub shape_of-has_z : goal.shape_of-has_z
-shape_of-has_z c =
-    let evaluate = c.evaluate in
-    evaluate.auto.1.1.1.1.1.1.1.1.1.0
+    let found = check.ensures ∙ ap₂ (λ (w s : Bool). first_of (ahead w n s) 0) wrong.ensures too_short.ensures in record {
+      answer = answer-refused _ n _ g is found _;
+      values = slice-refused _ n _ g is found plus_zero _ _;
+      ucl = slice-refused _ n _ g is found plus_zero _ _;
+      lcl = slice-refused _ n _ g is found plus_zero _ _;
+      out = slice-refused _ n _ g is found false _ _;
+      z = slice-refused _ n _ g is found plus_zero _ _;
+      has_z = slice-refused _ n _ g is found false _ _;
+    }
 
 pub returns-in-Passed : goal.returns-in-Passed
 unfolding evaluate_p plot_p
@@ -100,8 +74,9 @@ returns-in-Passed c =
     let centre = c.centre-cl in
     let args = c.args in
     let n = args.self.count in
-    let none = sym c.check.ensures ∙ ap tested c.enum_told-1.given.1 in
+    let none = sym c.check.ensures ∙ ap tested c.in-Passed.is in
     let is = ap₂ (λ (w s : Bool). first_of (ahead w n s) 0) c.wrong-wrong.ensures c.too_short-short.ensures in
-    finished args.counts.now n (sizes_p n args.sizes.now) args.ucl.now (length-tabulate _ n) (room (goal.at.returns-in-Passed c).In-Passed).in-ucl
+    let all = finished args.counts.now n (sizes_p n args.sizes.now) args.ucl.now (length-tabulate _ n) (room (goal.at.returns-in-Passed c).In-Passed).in-ucl
     fill-sizes.ensures centre.ensures (variance.ensures ∙ ap variance_p centre.ensures)
-    _ n _ args.values.now args.lcl.now args.out.now args.z.now args.has-z.now (sym is ∙ none) evaluate.ensures
+    _ n _ args.values.now args.lcl.now args.out.now args.z.now args.has-z.now (sym is ∙ none) evaluate.ensures in
+    record { answer = all.0; values = all.1.0; ucl = all.1.1.0; lcl = all.1.1.1.0; out = all.1.1.1.1.0; z = all.1.1.1.1.1.0; has_z = all.1.1.1.1.1.1 }

@@ -18,7 +18,7 @@ room c =
     let record-wrong = c.record_wrong-wrong in
     let args = c.args in
     fits record-wrong.result sample.result args.self.count (length args.counts.now) (length args.sizes.now)
-    (sym adding.ensures ∙ ap tested c.enum_told-1.given.1)
+    (sym adding.ensures ∙ ap tested c.in-Passed.is)
 
 pub offset_bounds-counts-at : goal.offset_bounds-counts-at
 offset_bounds-counts-at c =
@@ -43,22 +43,28 @@ overflow_add-chart c =
 pub returns-in-Refused : goal.returns-in-Refused
 unfolding add_u every
 returns-in-Refused c =
-    let why = c.why-1 in
+    let why = c.in-Refused in
     let adding = c.adding in
     let sample = c.sample-sample in
     let record-wrong = c.record_wrong-wrong in
     let args = c.args in
     let found = numbered sample.result (sample_u args.damaged args.units) args.self.count _ _ record-wrong.ensures sample.ensures refl adding.ensures in
-    let is = why.given.1 in
-    (add-refused _ args.self _ refl adding.result found is, (kept-refused is args.self.count args.damaged _, kept-refused is args.self.count args.units _))
+    let is = why.given.1 in record {
+      answer = add-refused _ args.self _ refl adding.result found is;
+      counts = kept-refused is args.self.count args.damaged _;
+      sizes = kept-refused is args.self.count args.units _;
+    }
 
 pub returns-in-Passed : goal.returns-in-Passed
 unfolding add_u kept_after every
 returns-in-Passed c =
-    let enum_told = c.enum_told-1 in
+    let enum_told = c.in-Passed in
     let adding = c.adding in
     let sample = c.sample-sample in
     let record-wrong = c.record_wrong-wrong in
     let args = c.args in
-    let found = numbered sample.result (sample_u args.damaged args.units) args.self.count _ _ record-wrong.ensures sample.ensures refl adding.ensures in
-    (add_done _ args.self _ refl adding.result found enum_told.given.1, (refl, refl))
+    let found = numbered sample.result (sample_u args.damaged args.units) args.self.count _ _ record-wrong.ensures sample.ensures refl adding.ensures in record {
+      answer = add_done _ args.self _ refl adding.result found enum_told.given.1;
+      counts = refl;
+      sizes = refl;
+    }

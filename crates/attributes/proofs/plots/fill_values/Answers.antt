@@ -36,10 +36,6 @@ loop-i-preserved c =
     let loop = c.loop-i in
     tabling-goes-on _ _ _ _ _ loop.invariant _ loop-test.true refl
 
-pub shape_of-out : goal.shape_of-out
-shape_of-out c =
-    tabling-length _ _ _ _ _ c.loop-i.invariant
-
 pub returns : goal.returns
 returns c =
     let loop-test = c.loop-i-test in

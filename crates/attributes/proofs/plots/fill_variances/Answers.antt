@@ -42,10 +42,6 @@ loop-i-preserved c =
     tabling-goes-on _ _ _ _ _ loop.invariant _ loop-test.true
     (ap (div binary64 args.variance) (in_place _ _ _ _ _ loop.invariant nan))
 
-pub shape_of-out : goal.shape_of-out
-shape_of-out c =
-    tabling-length _ _ _ _ _ c.loop-i.invariant
-
 pub returns : goal.returns
 returns c =
     let loop-test = c.loop-i-test in

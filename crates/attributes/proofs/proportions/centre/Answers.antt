@@ -33,7 +33,7 @@ total-inspected-requires c =
 pub returns-in-Given : goal.returns-in-Given
 unfolding centre_p
 returns-in-Given c =
-    given-centre _ _ _ c.centre-1.given.1
+    given-centre _ _ _ c.in-Given.is
 
 pub returns-in-Computed : goal.returns-in-Computed
 unfolding centre_p
@@ -42,7 +42,7 @@ returns-in-Computed c =
     let nearest-u64-to-f64 = c.nearest_u64_to_f64 in
     let total2 = c.total-inspected in
     let total = c.total-damaged in
-    let enum_told = c.enum_told-1 in
+    let enum_told = c.in-Computed in
     let args = c.args in
     ap₂ (div binary64)
     (nearest-u64-to-f64.ensures ∙ ap whole (total.ensures ∙ ap (λ (k : ℕ). total_of (take k args.counts.now)) (sub-zero args.c.count)))

@@ -6,11 +6,11 @@ use Rattle.attributes.proofs.rates.centre_wrong.Goals as goal
 pub returns-in-Computed : goal.returns-in-Computed
 unfolding centre_wrong
 returns-in-Computed c =
-    sym (ap (centre_wrong rate_allowed) c.enum_told-1.given.1)
+    sym (ap (centre_wrong rate_allowed) c.in-Computed.is)
 
 pub returns-in-Given : goal.returns-in-Given
 unfolding centre_wrong
 returns-in-Given c =
     let allowed = c.allowed in
-    let centre = c.centre-1 in
+    let centre = c.in-Given in
     ap not allowed.ensures ∙ sym (ap (centre_wrong rate_allowed) centre.given.1)

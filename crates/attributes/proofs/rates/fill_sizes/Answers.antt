@@ -32,10 +32,6 @@ loop-i-preserved c =
     let pre = c.requires in
     filling-goes-on _ _ _ _ loop.invariant nan _ (omega (arith, loop-test.true, length-take-le args.n args.sizes.now pre.0)) (sym (get_or-take args.n args.sizes.now loop.i nan loop-test.true))
 
-pub shape_of-out : goal.shape_of-out
-shape_of-out c =
-    filling-length _ _ _ _ c.loop-i.invariant
-
 pub returns : goal.returns
 returns c =
     let loop-test = c.loop-i-test in

@@ -19,8 +19,10 @@ pub returns-then-record_wrong : goal.returns-then-record_wrong
 unfolding add_of values_after
 returns-then-record_wrong c =
     let args = c.args in
-    let wrong : record_wrong args.self (length args.values.now) ≡ true = search (rules, told) in
-    (sym (refused _ _ _ _ wrong), refl)
+    let wrong : record_wrong args.self (length args.values.now) ≡ true = search (rules, told) in record {
+      answer = sym (refused _ _ _ _ wrong);
+      values = refl;
+    }
 
 -- ---- the tests that are passed
 
@@ -45,24 +47,27 @@ finite c =
 pub returns-then-sample-self : goal.returns-then-sample-self
 unfolding add_of values_after
 returns-then-sample-self c =
-    (sym (passed _ _ _ _ (right (goal.at.returns-then-sample-self c).Else-record_wrong) ∙ refused _ _ _ _ (ap not (ne_eqb _ _ c.if-sample-self.true))), refl)
+    record {
+      answer = sym (passed _ _ _ _ (right (goal.at.returns-then-sample-self c).Else-record_wrong) ∙ refused _ _ _ _ (ap not (ne_eqb _ _ c.if-sample-self.true)));
+      values = refl;
+    }
 
 pub returns-then-not-all_finite : goal.returns-then-not-all_finite
 unfolding add_of values_after
 returns-then-not-all_finite c =
-    (
-  sym (passed _ _ _ _ (right (goal.at.returns-then-not-all_finite c).Else-record_wrong) ∙ passed _ _ _ _ (fits (goal.at.returns-then-not-all_finite c).Else-sample-self) ∙ refused _ _ _ _ (told-not c.all_finite.ensures c.if-not-all_finite.true)),
-  refl,
-)
+    record {
+      answer = sym (passed _ _ _ _ (right (goal.at.returns-then-not-all_finite c).Else-record_wrong) ∙ passed _ _ _ _ (fits (goal.at.returns-then-not-all_finite c).Else-sample-self) ∙ refused _ _ _ _ (told-not c.all_finite.ensures c.if-not-all_finite.true));
+      values = refl;
+    }
 
 pub returns-then-self-ge-MOST : goal.returns-then-self-ge-MOST
 unfolding add_of values_after
 returns-then-self-ge-MOST c =
-    (
-  sym (passed _ _ _ _ (right (goal.at.returns-then-self-ge-MOST c).Else-record_wrong) ∙ passed _ _ _ _ (fits (goal.at.returns-then-self-ge-MOST c).Else-sample-self) ∙ passed _ _ _ _ (finite (goal.at.returns-then-self-ge-MOST c).Else-not-all_finite)
-      ∙ refused _ _ _ _ (le-leb _ _ c.if-self-ge-MOST.true)),
-  refl,
-)
+    record {
+      answer = sym (passed _ _ _ _ (right (goal.at.returns-then-self-ge-MOST c).Else-record_wrong) ∙ passed _ _ _ _ (fits (goal.at.returns-then-self-ge-MOST c).Else-sample-self) ∙ passed _ _ _ _ (finite (goal.at.returns-then-self-ge-MOST c).Else-not-all_finite)
+          ∙ refused _ _ _ _ (le-leb _ _ c.if-self-ge-MOST.true));
+      values = refl;
+    }
 
 pub overflow_mul-at : goal.overflow_mul-at
 overflow_mul-at c =
@@ -75,27 +80,21 @@ overflow_add-end c =
 pub returns-then-values-end : goal.returns-then-values-end
 unfolding add_of values_after
 returns-then-values-end c =
-    (
-  sym (passed _ _ _ _ (right (goal.at.returns-then-values-end c).Else-record_wrong) ∙ passed _ _ _ _ (fits (goal.at.returns-then-values-end c).Else-sample-self) ∙ passed _ _ _ _ (finite (goal.at.returns-then-values-end c).Else-not-all_finite)
-      ∙ passed _ _ _ _ (lt-leb _ _ c.if-self-ge-MOST.false) ∙ refused _ _ _ _ (lt-ltb _ _ c.if-values-end.true)),
-  refl,
-)
+    record {
+      answer = sym (passed _ _ _ _ (right (goal.at.returns-then-values-end c).Else-record_wrong) ∙ passed _ _ _ _ (fits (goal.at.returns-then-values-end c).Else-sample-self) ∙ passed _ _ _ _ (finite (goal.at.returns-then-values-end c).Else-not-all_finite)
+          ∙ passed _ _ _ _ (lt-leb _ _ c.if-self-ge-MOST.false) ∙ refused _ _ _ _ (lt-ltb _ _ c.if-values-end.true));
+      values = refl;
+    }
 
 pub copy-requires : goal.copy-requires
 copy-requires c =
     lent_length c.args.self c.args.values.now c.if-values-end.false c.args.sample.now c.if-sample-self.false
 
-pub shape_of-values : goal.shape_of-values
-shape_of-values c =
-    let args = c.args in
-    let copy = c.copy in
-    kept-length args.self args.values.now c.if-values-end.false copy.new.0 copy.auto.0
-
 pub returns : goal.returns
 unfolding add_of
 returns c =
-    let args = c.args in (
-      sym (passed _ _ _ _ (right (goal.at.returns c).Else-record_wrong) ∙ passed _ _ _ _ (fits (goal.at.returns c).Else-sample-self) ∙ passed _ _ _ _ (finite (goal.at.returns c).Else-not-all_finite)
-          ∙ passed _ _ _ _ (lt-leb _ _ c.if-self-ge-MOST.false) ∙ passed _ _ _ _ (le-ltb _ _ c.if-values-end.false) ∙ none-applies _),
-      appended args.self args.values.now args.sample.now _ c.copy.ensures c.if-sample-self.false,
-    )
+    let args = c.args in record {
+      answer = sym (passed _ _ _ _ (right (goal.at.returns c).Else-record_wrong) ∙ passed _ _ _ _ (fits (goal.at.returns c).Else-sample-self) ∙ passed _ _ _ _ (finite (goal.at.returns c).Else-not-all_finite)
+          ∙ passed _ _ _ _ (lt-leb _ _ c.if-self-ge-MOST.false) ∙ passed _ _ _ _ (le-ltb _ _ c.if-values-end.false) ∙ none-applies _);
+      values = appended args.self args.values.now args.sample.now _ c.copy.ensures c.if-sample-self.false;
+    }

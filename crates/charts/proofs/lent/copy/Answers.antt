@@ -40,12 +40,6 @@ loop-i-preserved c =
     let args = c.args in
     filling-goes-on args.from.now args.to.now loop.to loop.i loop.invariant nan _ loop-test.true refl
 
-pub shape_of-to : goal.shape_of-to
-shape_of-to c =
-    let loop = c.loop-i in
-    let args = c.args in
-    filling-length args.from.now args.to.now loop.to loop.i loop.invariant
-
 pub returns : goal.returns
 returns c =
     let loop-test = c.loop-i-test in

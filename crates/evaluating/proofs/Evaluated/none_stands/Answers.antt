@@ -6,10 +6,10 @@ use Rattle.evaluating.proofs.Evaluated.none_stands.Goals as goal
 
 pub returns-in-Done : goal.returns-in-Done
 returns-in-Done c =
-    sym (ap (λ (e : Evaluated). (evaluated e).none_stands) c.self-1.given.1)
+    sym (ap (λ (e : Evaluated). (evaluated e).none_stands) c.in-Done.is)
 
 pub returns-in-Refused : goal.returns-in-Refused
 returns-in-Refused c =
     let number = c.number in
-    let self2 = c.self-in-Refused-1 in
+    let self2 = c.in-Refused in
     ap (λ (n : ℕ). eqb n 8) number.ensures ∙ sym (ap (λ (e : Evaluated). (evaluated e).none_stands) self2.given.1)

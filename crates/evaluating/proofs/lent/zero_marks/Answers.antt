@@ -21,10 +21,6 @@ pub loop-i-preserved : goal.loop-i-preserved
 loop-i-preserved c =
     one-value-goes-on _ _ _ _ c.loop-i.invariant c.loop-i-test.true
 
-pub shape_of-out : goal.shape_of-out
-shape_of-out c =
-    one-value-length _ _ _ _ c.loop-i.invariant
-
 pub returns : goal.returns
 returns c =
     one-value-ends _ _ _ _ c.loop-i.invariant c.loop-i-test.false

@@ -17,31 +17,25 @@ fill-requires-2 c =
 
 pub slice_bounds-mean_of-end : goal.slice_bounds-mean_of-end
 slice_bounds-mean_of-end c =
-    omega (arith, c.points_in-n.ensures, c.before.before.before.before.before.before.before.before.before.before.before.before.before.before.requires.1, c.fill.auto)
+    omega (arith, c.points_in-n.ensures, c.requires.1, c.fill.auto)
 
 pub slice_bounds-mean_of-end-2 : goal.slice_bounds-mean_of-end-2
 slice_bounds-mean_of-end-2 c =
-    omega (arith, c.points_in-k.ensures, c.before.before.before.before.before.before.before.before.before.before.before.before.before.before.before.before.before.requires.2, c.fill-2.auto)
+    omega (arith, c.points_in-k.ensures, c.requires.2, c.fill-2.auto)
 
 pub limits_from-requires : goal.limits_from-requires
 limits_from-requires c =
-    own_of c.before.before.before.before.before.before.before.before.before.before.before.before.before.before.before.before.before.before.before.args.c (length c.before.before.before.before.before.before.before.before.before.before.before.before.before.before.before.before.before.before.before.args.values.now) c.before.before.before.before.before.before.before.before.before.before.before.before.before.before.before.before.before.before.before.requires.0
-
-pub shape_of-main : goal.shape_of-main
-shape_of-main c =
-    c.fill.auto.1.1.1.0
-
-pub shape_of-dispersion : goal.shape_of-dispersion
-shape_of-dispersion c =
-    c.fill-2.auto.1.1.1.0
+    own_of c.args.c (length c.args.values.now) c.requires.0
 
 pub returns : goal.returns
 returns c =
-    let start = c.before.before.before.before.before.before.before.before.before.before.before.before.before.before.before.before.before.before.before.before in
-    let a = asked start.args.c start.args.values.now in
+    let a = asked c.args.c c.args.values.now in
     let fill = c.fill in
     let fill2 = c.fill-2 in
-    let main = front-series a 0 _ start.args.main.now _ c.points_in-n.ensures fill.ensures in
-    let dispersion = front-series a 1 _ start.args.dispersion.now _ c.points_in-k.ensures fill2.ensures in
-    let means = ap₂ (λ (m d : Float). limits_from start.args.c m d) c.mean_of.ensures c.mean_of-2.ensures in
-    (c.limits_from.ensures ∙ means ∙ from-series a main dispersion, (fill.ensures, fill2.ensures))
+    let main = front-series a 0 _ c.args.main.now _ c.points_in-n.ensures fill.ensures in
+    let dispersion = front-series a 1 _ c.args.dispersion.now _ c.points_in-k.ensures fill2.ensures in
+    let means = ap₂ (λ (m d : Float). limits_from c.args.c m d) c.mean_of.ensures c.mean_of-2.ensures in record {
+      limits = c.limits_from.ensures ∙ means ∙ from-series a main dispersion;
+      main = fill.ensures;
+      dispersion = fill2.ensures;
+    }

@@ -8,29 +8,23 @@ use Rattle.evaluating.proofs.marks.mark.Goals as goal
 pub slice_bounds-count-end : goal.slice_bounds-count-end
 slice_bounds-count-end c =
     let mark = c.mark in
-    let start = c.before.before.before.before.before.before.before.before in
-    let s = start.args in
-    omega (arith, (was-done (under s.limits s.width s.stops.now s.moving) s.set.mask s.points.now (length s.marks.now) start.requires).1, mark.auto)
+    let s = c.args in
+    omega (arith, (was-done (under s.limits s.width s.stops.now s.moving) s.set.mask s.points.now (length s.marks.now) c.requires).1, mark.auto)
 
 pub count-requires : goal.count-requires
 count-requires c =
     let mark = c.mark in
-    let start = c.before.before.before.before.before.before.before.before.before in
-    let s = start.args in
-    let none = (was-done (under s.limits s.width s.stops.now s.moving) s.set.mask s.points.now (length s.marks.now) start.requires).0 in
+    let s = c.args in
+    let none = (was-done (under s.limits s.width s.stops.now s.moving) s.set.mask s.points.now (length s.marks.now) c.requires).0 in
     front-few (length s.points.now) mark.new.1.1.1.1.1.1.0 (was-accepted (under s.limits s.width s.stops.now s.moving) s.set.mask s.points.now none).few
-
-pub shape_of-marks : goal.shape_of-marks
-shape_of-marks c =
-    c.mark.auto.1.1.1.1.1.1.0
 
 pub returns : goal.returns
 returns c =
     let count = c.count in
     let mark = c.mark in
-    let s = c.before.before.before.before.before.before.before.before.before.before.args in
-    let pre = c.before.before.before.before.before.before.before.before.before.before.requires in
-    let marked = mark.ensures.1 in (
-      (marks-counted (under s.limits s.width s.stops.now s.moving) s.set.mask s.points.now s.marks.now pre marked count.ensures.0, count.ensures.1),
-      marked ∙ sym (marks-written (under s.limits s.width s.stops.now s.moving) s.set.mask s.points.now s.marks.now pre),
-    )
+    let s = c.args in
+    let pre = c.requires in
+    let marked = mark.ensures.1 in record {
+      number = (marks-counted (under s.limits s.width s.stops.now s.moving) s.set.mask s.points.now s.marks.now pre marked count.ensures.0, count.ensures.1);
+      marks = marked ∙ sym (marks-written (under s.limits s.width s.stops.now s.moving) s.set.mask s.points.now s.marks.now pre);
+    }

@@ -40,10 +40,6 @@ loop-i-preserved c =
     let points-in = c.points_in-n in
     tabling-goes-on _ _ _ _ _ loop.invariant point.result (omega (arith, points-in.ensures, loop-test.true)) point.ensures
 
-pub shape_of-out : goal.shape_of-out
-shape_of-out c =
-    tabling-length _ _ _ _ _ c.loop-i.invariant
-
 pub returns : goal.returns
 unfolding series_of
 returns c =

@@ -12,7 +12,7 @@ measure-requires c =
 
 pub returns-then-c-le-FEW : goal.returns-then-c-le-FEW
 returns-then-c-le-FEW c =
-    c.measure.ensures.0
+    c.measure.ensures.limits
 
 pub measure-requires-2 : goal.measure-requires-2
 measure-requires-2 c =
@@ -22,4 +22,4 @@ measure-requires-2 c =
 
 pub returns : goal.returns
 returns c =
-    c.measure-2.ensures.0
+    c.measure-2.ensures.limits

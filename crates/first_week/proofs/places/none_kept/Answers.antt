@@ -28,10 +28,6 @@ unfolding is_kept
 loop-i-preserved c =
     tabling-goes-on _ _ _ _ _ c.loop-i.invariant _ c.loop-i-test.true refl
 
-pub shape_of-kept : goal.shape_of-kept
-shape_of-kept c =
-    tabling-length _ _ _ _ _ c.loop-i.invariant
-
 pub returns : goal.returns
 returns c =
     tabling-ends _ _ _ _ _ c.loop-i.invariant c.loop-i-test.false

@@ -30,10 +30,6 @@ pub loop-i-preserved : goal.loop-i-preserved
 loop-i-preserved c =
     tabling-goes-on _ _ _ _ _ c.loop-i.invariant _ c.loop-i-test.true refl
 
-pub shape_of-places : goal.shape_of-places
-shape_of-places c =
-    tabling-length _ _ _ _ _ c.loop-i.invariant
-
 pub returns : goal.returns
 returns c =
     tabling-ends _ _ _ _ _ c.loop-i.invariant c.loop-i-test.false

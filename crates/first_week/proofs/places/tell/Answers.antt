@@ -16,7 +16,7 @@ none_kept-requires c =
 
 pub loop-j-init : goal.loop-j-init
 loop-j-init c =
-    telling-starts _ _ _ _ c.requires.0 c.none_kept.auto.1.0 c.none_kept.ensures
+    telling-starts _ _ _ _ c.requires.0 c.none_kept.auto.kept c.none_kept.ensures
 
 pub bounds-places-j : goal.bounds-places-j
 bounds-places-j c =
@@ -41,10 +41,6 @@ loop-j-smaller c =
 pub loop-j-preserved : goal.loop-j-preserved
 loop-j-preserved c =
     telling-goes-on _ _ _ _ _ c.loop-j.invariant c.loop-j-test.true (c.requires.1 c.loop-j.j c.loop-j-test.true)
-
-pub shape_of-kept : goal.shape_of-kept
-shape_of-kept c =
-    telling-length _ _ _ _ _ c.loop-j.invariant ∙ c.none_kept.auto.1.0
 
 pub returns : goal.returns
 returns c =

@@ -69,26 +69,13 @@ loop-i-preserved c =
       narrowing-goes-on _ _ _ _ k i loop.invariant.3 0 _ in-main (omega (arith, c.loop-i-test.true, c.requires.2)) refl _ out,
     )
 
-pub shape_of-main : goal.shape_of-main
-shape_of-main c =
-    c.loop-i.invariant.1.same
-
-pub shape_of-dispersion : goal.shape_of-dispersion
-shape_of-dispersion c =
-    c.loop-i.invariant.2.same
-
-pub shape_of-places : goal.shape_of-places
-shape_of-places c =
-    c.loop-i.invariant.3.same
-
 pub returns : goal.returns
 returns c =
     let n = c.args.n in
     let loop = c.loop-i in
-    let all = narrowing-ends _ _ _ _ _ _ loop.invariant.3 n c.loop-i-test.false loop.invariant.0 in (
-      narrowing-total _ _ _ _ _ _ loop.invariant.3 n c.loop-i-test.false loop.invariant.0,
-      (
-        narrowing-ends _ _ _ _ _ _ loop.invariant.1 n c.loop-i-test.false loop.invariant.0,
-        (narrowing-ends _ _ _ _ _ _ loop.invariant.2 n c.loop-i-test.false loop.invariant.0, all),
-      ),
-    )
+    let all = narrowing-ends _ _ _ _ _ _ loop.invariant.3 n c.loop-i-test.false loop.invariant.0 in record {
+      count = narrowing-total _ _ _ _ _ _ loop.invariant.3 n c.loop-i-test.false loop.invariant.0;
+      main = narrowing-ends _ _ _ _ _ _ loop.invariant.1 n c.loop-i-test.false loop.invariant.0;
+      dispersion = narrowing-ends _ _ _ _ _ _ loop.invariant.2 n c.loop-i-test.false loop.invariant.0;
+      places = all;
+    }

@@ -12,7 +12,7 @@ use Rattle.first_week.proofs.rounds.settle.Goals as goal
 
 -- the rounds that are left where one dropped some
 pending : (c : Else-k-left) → Pending c.args.chart (rounds_over c.args.chart c.args.main.now c.args.dispersion.now)
-    c.narrow-k.new.1.1.0 c.narrow-k.new.1.1.1.0 c.narrow-k.new.1.1.1.1.0 c.narrow-k.result (c.loop-left.made + 1)
+    c.narrow-k.new.main c.narrow-k.new.dispersion c.narrow-k.new.places c.narrow-k.result (c.loop-left.made + 1)
 pending c =
     let narrow = c.narrow-k in
     goes_on _ _ _ _ _ _ _ _ _ c.loop-left.invariant.4 _ _ _ _ narrow.ensures.0 narrow.ensures.1.0 narrow.ensures.1.1.0 narrow.ensures.1.1.1
@@ -22,13 +22,13 @@ pub returns-then-k-left : goal.returns-then-k-left
 returns-then-k-left c =
     let narrow = c.narrow-k in
     let loop = c.loop-left in
-    let is = narrow.ensures in (
-      round-ends _ _ _ _ _ _ _ _ _ loop.invariant.4 _ _ _ _ is.0 is.1.0 is.1.1.0 is.1.1.1 c.if-k-left.true,
-      (
+    let is = narrow.ensures in record {
+      outcome = round-ends _ _ _ _ _ _ _ _ _ loop.invariant.4 _ _ _ _ is.0 is.1.0 is.1.1.0 is.1.1.1 c.if-k-left.true;
+      placed = (
         omega (arith, c.if-k-left.true, loop.invariant.4.pending.places-room, narrow.auto.1.1.1.1.0),
         still-below _ _ _ _ _ _ _ _ _ loop.invariant.4 _ _ _ _ is.0 is.1.0 is.1.1.0 is.1.1.1,
-      ),
-    )
+      );
+    }
 
 pub number_all-requires : goal.number_all-requires
 number_all-requires c =
@@ -36,7 +36,7 @@ number_all-requires c =
 
 pub loop-left-init : goal.loop-left-init
 loop-left-init c =
-    (refl, refl, refl, c.requires.few, round-begins _ _ _ _ _ _ _ c.requires c.number_all.ensures c.number_all.auto.1.0)
+    (refl, refl, refl, c.requires.few, round-begins _ _ _ _ _ _ _ c.requires c.number_all.ensures c.number_all.auto.places)
 
 pub narrow-k-requires : goal.narrow-k-requires
 narrow-k-requires c =
@@ -48,55 +48,25 @@ overflow_add-rounds c =
 
 -- ---- the slices keep their lengths
 
-pub shape_of-main-then-k-left : goal.shape_of-main-then-k-left
-shape_of-main-then-k-left c =
-    c.narrow-k.auto.1.1.0 ∙ c.loop-left.invariant.0
-
-pub shape_of-dispersion-then-k-left : goal.shape_of-dispersion-then-k-left
-shape_of-dispersion-then-k-left c =
-    c.narrow-k.auto.1.1.1.0 ∙ c.loop-left.invariant.1
-
-pub shape_of-places-then-k-left : goal.shape_of-places-then-k-left
-shape_of-places-then-k-left c =
-    c.narrow-k.auto.1.1.1.1.0 ∙ c.loop-left.invariant.2 ∙ c.number_all.auto.1.0
-
-pub shape_of-main-then-k-eq0 : goal.shape_of-main-then-k-eq0
-shape_of-main-then-k-eq0 c =
-    c.narrow-k.auto.1.1.0 ∙ c.loop-left.invariant.0
-
-pub shape_of-dispersion-then-k-eq0 : goal.shape_of-dispersion-then-k-eq0
-shape_of-dispersion-then-k-eq0 c =
-    c.narrow-k.auto.1.1.1.0 ∙ c.loop-left.invariant.1
-
-pub shape_of-places-then-k-eq0 : goal.shape_of-places-then-k-eq0
-shape_of-places-then-k-eq0 c =
-    c.narrow-k.auto.1.1.1.1.0 ∙ c.loop-left.invariant.2 ∙ c.number_all.auto.1.0
-
-pub shape_of-main-in-Refused : goal.shape_of-main-in-Refused
-shape_of-main-in-Refused c =
-    c.narrow-k.auto.1.1.0 ∙ c.loop-left.invariant.0
-
-pub shape_of-dispersion-in-Refused : goal.shape_of-dispersion-in-Refused
-shape_of-dispersion-in-Refused c =
-    c.narrow-k.auto.1.1.1.0 ∙ c.loop-left.invariant.1
-
-pub shape_of-places-in-Refused : goal.shape_of-places-in-Refused
-shape_of-places-in-Refused c =
-    c.narrow-k.auto.1.1.1.1.0 ∙ c.loop-left.invariant.2 ∙ c.number_all.auto.1.0
-
 -- ---- some were dropped
 
 pub returns-then-k-eq0 : goal.returns-then-k-eq0
 returns-then-k-eq0 c =
-    (none_left _ _ _ _ _ _ _ (pending (goal.at.returns-then-k-eq0 c).Else-k-left) c.if-k-eq0.true, tt)
+    record {
+      outcome = none_left _ _ _ _ _ _ _ (pending (goal.at.returns-then-k-eq0 c).Else-k-left) c.if-k-eq0.true;
+      placed = tt;
+    }
 
 pub limits_of-requires : goal.limits_of-requires
 limits_of-requires c =
-    let p = pending (goal.at.limits_of-requires c).After-places-in-loop-left-1 in (p.main-room, p.dispersion-room)
+    let p = pending (goal.at.limits_of-requires c).Else-k-left in (p.main-room, p.dispersion-room)
 
 pub returns-in-Refused : goal.returns-in-Refused
 returns-in-Refused c =
-    (not_finite _ _ _ _ _ _ _ (pending (goal.at.returns-in-Refused c).After-places-in-loop-left-1) c.if-k-eq0.false c.why-1.given.0.0 (sym (ap limited c.why-1.given.1) ∙ c.Limits-of.ensures), tt)
+    record {
+      outcome = not_finite _ _ _ _ _ _ _ (pending (goal.at.returns-in-Refused c).Else-k-left) c.if-k-eq0.false c.in-Refused.why (sym (ap limited c.in-Refused.is) ∙ c.Limits-of.ensures);
+      placed = tt;
+    }
 
 pub overflow_add-made : goal.overflow_add-made
 overflow_add-made c =
@@ -116,5 +86,5 @@ loop-left-preserved c =
       narrow.auto.1.1.1.0 ∙ loop.invariant.1,
       narrow.auto.1.1.1.1.0 ∙ loop.invariant.2,
       loop.invariant.3,
-      next-round _ _ _ _ _ _ _ (pending (goal.at.loop-left-preserved c).After-places-in-loop-left-1) c.if-k-eq0.false _ _ (sym (ap limited c.x-1.given.1) ∙ c.Limits-of.ensures),
+      next-round _ _ _ _ _ _ _ (pending (goal.at.loop-left-preserved c).Else-k-left) c.if-k-eq0.false _ _ (sym (ap limited c.in-Done.is) ∙ c.Limits-of.ensures),
     )

@@ -19,11 +19,7 @@ pub loop-i-preserved : goal.loop-i-preserved
 loop-i-preserved c =
     let xs = c.args.xs.now in
     let h = c.loop-i-test.true in
-    putting-goes-on c.loop-i.invariant (omega (arith, length-map xs (to_bits binary64))) (c.bits.ensures ∙ entry_of (to_bits binary64) xs _ nan h) c.put_number-next.ensures c.put_number-next.auto.0
-
-pub shape_of-out : goal.shape_of-out
-shape_of-out c =
-    c.loop-i.invariant.long
+    putting-goes-on c.loop-i.invariant (omega (arith, length-map xs (to_bits binary64))) (c.bits.ensures ∙ entry_of (to_bits binary64) xs _ nan h) c.put_number-next.ensures c.put_number-next.auto.out
 
 pub returns : goal.returns
 returns c =

@@ -18,11 +18,7 @@ overflow_cast-marks c =
 
 pub loop-i-preserved : goal.loop-i-preserved
 loop-i-preserved c =
-    putting-goes-on c.loop-i.invariant c.loop-i-test.true refl c.put_number-next.ensures c.put_number-next.auto.0
-
-pub shape_of-out : goal.shape_of-out
-shape_of-out c =
-    c.loop-i.invariant.long
+    putting-goes-on c.loop-i.invariant c.loop-i-test.true refl c.put_number-next.ensures c.put_number-next.auto.out
 
 pub returns : goal.returns
 returns c =

@@ -12,11 +12,11 @@ returns-then-out-at c =
 
 pub overflow_add-result-in-Bytes : goal.overflow_add-result-in-Bytes
 overflow_add-result-in-Bytes c =
-    omega (arith, put-fits c.args.x c.args.at c.args.out.now _ c.n-1.given.0.0 c.if-out-at.false (sym (ap written c.n-1.given.1) ∙ c.write_number.ensures.0) c.write_number.ensures.1)
+    omega (arith, put-fits c.args.x c.args.at c.args.out.now _ c.in-Bytes.n c.if-out-at.false (sym (ap written c.in-Bytes.is) ∙ c.write_number.ensures.answer) c.write_number.ensures.room)
 
 pub returns-in-Bytes : goal.returns-in-Bytes
 returns-in-Bytes c =
-    put_one _ _ _ _ _ c.if-out-at.false (sym (ap written c.n-1.given.1) ∙ c.write_number.ensures.0) c.write_number.ensures.1
+    put_one _ _ _ _ _ c.if-out-at.false (sym (ap written c.in-Bytes.is) ∙ c.write_number.ensures.answer) c.write_number.ensures.room
 
 pub returns-in-Short : goal.returns-in-Short
 returns-in-Short c =

@@ -12,11 +12,16 @@ use Rattle.lists.proofs.run.past.Goals as goal
 pub returns-in-Case : goal.returns-in-Case
 returns-in-Case c =
     let run = c.args.run in
-    let differ : c.count-in-Case.result ≡ counted run.differ (differs c.replayed-1.given.0.0) run.cases =
+    let differ : c.count-in-Case.result ≡ counted run.differ (differs c.in-Case.outcome) run.cases =
     c.count-in-Case.ensures ∙ ap (λ (b : Bool). counted run.differ b run.cases) c.tell-differs.ensures in
-    let on : run.k < run.cases → c.count.result ≡ run.k + 1 = λ h. c.count.ensures ∙ rw (lt-ltb _ _ h) in
-    (rw (c.replayed-1.given.1, c.count.ensures, differ), λ h. omega (arith, on h))
+    let on : run.k < run.cases → c.count.result ≡ run.k + 1 = λ h. c.count.ensures ∙ rw (lt-ltb _ _ h) in record {
+      value = rw (c.in-Case.is, c.count.ensures, differ);
+      fewer = λ h. omega (arith, on h);
+    }
 
 pub returns-in-Fault : goal.returns-in-Fault
 returns-in-Fault c =
-    (c.broken.ensures ∙ sym (ap (run_past c.args.run) c.replayed-in-Fault-1.given.1), λ h. rw c.broken.ensures (omega arith))
+    record {
+      value = c.broken.ensures ∙ sym (ap (run_past c.args.run) c.in-Fault.is);
+      fewer = λ h. rw c.broken.ensures (omega arith);
+    }

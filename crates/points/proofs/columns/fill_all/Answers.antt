@@ -58,30 +58,11 @@ loop-i-preserved c =
     columns-go-on _ _ _ _ _ _ _ _ _ _ _ _ _ _ loop.invariant upper.result lower.result standardized.result is_finite.result loop-test.true
     upper.ensures lower.ensures standardized.ensures is_finite.ensures
 
-pub shape_of-ucl : goal.shape_of-ucl
-shape_of-ucl c =
-    tabling-length _ _ _ _ _ c.loop-i.invariant.of-ucl
-
-pub shape_of-lcl : goal.shape_of-lcl
-shape_of-lcl c =
-    tabling-length _ _ _ _ _ c.loop-i.invariant.of-lcl
-
-pub shape_of-out : goal.shape_of-out
-shape_of-out c =
-    tabling-length _ _ _ _ _ c.loop-i.invariant.of-out
-
-pub shape_of-z : goal.shape_of-z
-shape_of-z c =
-    tabling-length _ _ _ _ _ c.loop-i.invariant.of-z
-
-pub shape_of-has_z : goal.shape_of-has_z
-shape_of-has_z c =
-    tabling-length _ _ _ _ _ c.loop-i.invariant.of-has-z
-
 pub returns : goal.returns
 returns c =
     let loop-test = c.loop-i-test in
     let loop = c.loop-i in
     let is_finite = c.is_finite-centre in
     let pre = c.requires in
-    columns-end _ _ _ _ _ _ _ _ _ _ _ _ _ _ loop.invariant pre loop-test.false is_finite.ensures
+    let all = columns-end _ _ _ _ _ _ _ _ _ _ _ _ _ _ loop.invariant pre loop-test.false is_finite.ensures in
+    record { sound = all.0; ucl = all.1.0; lcl = all.1.1.0; out = all.1.1.1.0; z = all.1.1.1.1.0; has_z = all.1.1.1.1.1 }

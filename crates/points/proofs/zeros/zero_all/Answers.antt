@@ -4,4 +4,11 @@ use Rattle.points.proofs.zeros.zero_all.Goals as goal
 
 pub returns : goal.returns
 returns c =
-    (c.zero.ensures, (c.zero-2.ensures, (c.zero-3.ensures, (c.no.ensures, (c.zero-4.ensures, c.no-2.ensures)))))
+    record {
+      values = c.zero.ensures;
+      ucl = c.zero-2.ensures;
+      lcl = c.zero-3.ensures;
+      out = c.no.ensures;
+      z = c.zero-4.ensures;
+      has_z = c.no-2.ensures;
+    }

@@ -16,9 +16,15 @@ at-most-more (Fault fault) h = tt
 pub returns-then-kind-eq1 : goal.returns-then-kind-eq1
 unfolding size_from
 returns-then-kind-eq1 c =
-    (c.read_small.ensures.0 ∙ simp (eq-eqb _ _ c.if-kind-eq1.true), at-most-more c.read_small.result c.read_small.ensures.1)
+    record {
+      result_value = c.read_small.ensures.result_value ∙ simp (eq-eqb _ _ c.if-kind-eq1.true);
+      most = at-most-more c.read_small.result c.read_small.ensures.most;
+    }
 
 pub returns : goal.returns
 unfolding size_from
 returns c =
-    (c.read_small-2.ensures.0 ∙ simp (ne_eqb _ _ c.if-kind-eq1.false), c.read_small-2.ensures.1)
+    record {
+      result_value = c.read_small-2.ensures.result_value ∙ simp (ne_eqb _ _ c.if-kind-eq1.false);
+      most = c.read_small-2.ensures.most;
+    }

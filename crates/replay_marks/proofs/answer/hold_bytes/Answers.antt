@@ -7,4 +7,4 @@ use Rattle.replay_marks.proofs.answer.hold_bytes.Goals as goal
 
 pub returns : goal.returns
 returns c =
-    only_then (put-stands c.put-end.ensures (omega (arith, c.if-end-gt8193.false, c.put-end.auto.0))) c.hold.result c.hold.ensures
+    only_then (put-stands c.put-end.ensures (omega (arith, c.if-end-gt8193.false, c.put-end.auto.out))) c.hold.result c.hold.ensures

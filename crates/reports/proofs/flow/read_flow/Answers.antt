@@ -11,27 +11,28 @@ use Rattle.reports.proofs.flow.read_flow.Goals as goal
 pub returns-then-s-gt24576 : goal.returns-then-s-gt24576
 unfolding flow_of
 returns-then-s-gt24576 c =
-    (simp (lt-ltb 24576 (length c.args.s.now) c.if-s-gt24576.true), tt)
+    record {
+      said = simp (lt-ltb 24576 (length c.args.s.now) c.if-s-gt24576.true);
+      legal = tt;
+    }
 
 pub read_values-requires : goal.read_values-requires
 read_values-requires c =
-    let told = subst LegalHead c.chart-1.given.1 c.read_head.ensures.1 in
-    (omega (arith, told.few, c.requires), told)
+    let told = subst LegalHead c.in-Names.is c.read_head.ensures.legal in record {
+      chart_in_bounds = omega (arith, told.few, c.requires);
+      legal = told;
+    }
 
 pub returns-in-Halted : goal.returns-in-Halted
 unfolding flow_of
 returns-in-Halted c =
     let args = c.args in
     let if1 = c.if-s-gt24576 in
-    let read_head = c.read_head in (
-      simp (le-ltb 24576 (length args.s.now) if1.false)
-          (read_head.ensures.0 ∙ ap (after_head args.s.now) c.why-1.given.1),
-      tt,
-    )
-
-pub shape_of-values : goal.shape_of-values
-shape_of-values c =
-    c.read_values.auto.1.1.1.0
+    let read_head = c.read_head in record {
+      said = simp (le-ltb 24576 (length args.s.now) if1.false)
+          (read_head.ensures.0 ∙ ap (after_head args.s.now) c.in-Halted.is);
+      legal = tt;
+    }
 
 pub returns-in-Names : goal.returns-in-Names
 unfolding flow_of
@@ -39,9 +40,9 @@ returns-in-Names c =
     let args = c.args in
     let if1 = c.if-s-gt24576 in
     let read_head = c.read_head in
-    let chart = c.chart-1 in
-    let read-values = c.read_values in (
-      simp (le-ltb 24576 (length args.s.now) if1.false)
-          (read_head.ensures.0 ∙ ap (after_head args.s.now) chart.given.1 ∙ read-values.ensures.0),
-      read-values.ensures.1,
-    )
+    let chart = c.in-Names in
+    let read-values = c.read_values in record {
+      said = simp (le-ltb 24576 (length args.s.now) if1.false)
+          (read_head.ensures.0 ∙ ap (after_head args.s.now) chart.given.1 ∙ read-values.ensures.0);
+      legal = read-values.ensures.1;
+    }

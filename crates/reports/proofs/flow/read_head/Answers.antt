@@ -20,132 +20,104 @@ use Rattle.reports.proofs.flow.read_head.Goals as goal
 
 -- ---- the numbers that were read and are not wrong
 
-abbrev bytes : tie.Else1 → List ℕ
-bytes c = c.before.before.before.before.before.before.before.args.s.now
-
-abbrev kind : tie.Else1 → ℕ
-kind c = c.before.before.before.kind.given.0.0
-
-abbrev second : tie.Else1 → ℕ
-second c = c.before.before.before.kind.given.0.1.0
-
-kind-passed : (c : Else-kind_wrong) → Passed kind_wrong (bytes c) 0 (kind c) (second c)
+kind-passed : (c : Else-kind_wrong) → Passed kind_wrong (c.args.s.now) 0 (c.in-Number.kind) (c.in-Number.second)
 kind-passed c =
     let read_number = c.read_number in
     record {
-      stands = sym read_number.ensures ∙ c.kind-1.given.1;
+      stands = sym read_number.ensures ∙ c.in-Number.is;
       right = told c.kind_wrong.ensures c.if-kind_wrong.false;
     }
 
-abbrev past-kind : tie.After-known-told3 → tie.Else1
-past-kind c = c.before.before.before.before.before.before.before.before
-
-abbrev size : tie.After-known-told3 → ℕ
-size c = c.before.before.before.before.before.size.given.0.0
-
-abbrev third : tie.After-known-told3 → ℕ
-third c = c.before.before.before.before.before.size.given.0.1.0
-
--- the chart that was made of both
-abbrev new : tie.After-known-told3 → Chart
-new c = c.before.new2.given.0.0
-
-made : (c : In-Done) → (size_wrong (kind (past-kind c)) (size c) ≡ false) × (new c ≡ new_chart (kind (past-kind c)) (size c))
+made : (c : In-Done) → (size_wrong (c.in-Number.kind) (c.in-Number-read_number.size) ≡ false) × (c.in-Done.new ≡ new_chart (c.in-Number.kind) (c.in-Number-read_number.size))
 made c =
-    chart-made _ _ (kind-passed (past-kind c)).right (new c) (sym (ap (changed no_chart) c.new-1.given.1) ∙ c.new.ensures)
+    chart-made _ _ ((let read_number = c.read_number in
+    record {
+      stands = sym read_number.ensures ∙ c.in-Number.is;
+      right = told c.kind_wrong.ensures c.if-kind_wrong.false;
+    })).right (c.in-Done.new) (sym (ap (changed no_chart) c.in-Done.is) ∙ c.new.ensures)
 
 size-passed : (c : In-Done)
-    → Passed (size_wrong (kind (past-kind c))) (bytes (past-kind c)) (second (past-kind c)) (size c) (third c)
+    → Passed (size_wrong (c.in-Number.kind)) (c.args.s.now) (c.in-Number.second) (c.in-Number-read_number.size) (c.in-Number-read_number.third)
 size-passed c =
-    record { stands = sym c.read_number-2.ensures ∙ c.size-1.given.1; right = (made c).0 }
+    record { stands = sym c.read_number-2.ensures ∙ c.in-Number-read_number.is; right = (made c).0 }
 
-abbrev past-size : tie.Else2 → tie.After-known-told3
-past-size c = c.before.before.before.before.before
-
-abbrev set : tie.Else2 → ℕ
-set c = c.before.before.set.given.0.0
-
-abbrev fourth : tie.Else2 → ℕ
-fourth c = c.before.before.set.given.0.1.0
-
-set-passed : (c : Else-set) → Passed too_large (bytes (past-kind (past-size c))) (third (past-size c)) (set c) (fourth c)
+set-passed : (c : Else-set) → Passed too_large (c.args.s.now) (c.in-Number-read_number.third) (c.in-Number-read_number-2.set) (c.in-Number-read_number-2.fourth)
 set-passed c =
-    record { stands = sym c.read_number-3.ensures ∙ c.set-1.given.1; right = le-ltb _ (set c) c.if-set.false }
-
-abbrev past-set : tie.Else3 → tie.Else2
-past-set c = c.before.before.before.before.before.before
-
-abbrev count : tie.Else3 → ℕ
-count c = c.before.before.before.count.given.0.0
-
-abbrev next : tie.Else3 → ℕ
-next c = c.before.before.before.count.given.0.1.0
+    record { stands = sym c.read_number-3.ensures ∙ c.in-Number-read_number-2.is; right = le-ltb _ (c.in-Number-read_number-2.set) c.if-set.false }
 
 -- a chart with the set and the count that were read
 abbrev held : tie.Else2 → tie.Else3 → Chart → Chart
 held s c chart = with_count (with_set chart (record { mask = set s })) (count c)
 
 count-passed : (c : Else-count_wrong)
-    → Passed (count_wrong (size (past-size (past-set c)))) (bytes (past-kind (past-size (past-set c)))) (fourth (past-set c)) (count c) (next c)
+    → Passed (count_wrong (c.in-Number-read_number.size)) (c.args.s.now) (c.in-Number-read_number-2.fourth) (c.in-Number-read_number-3.count) (c.in-Number-read_number-3.next)
 count-passed c =
     record {
-  stands = sym c.read_number-4.ensures ∙ c.count-1.given.1;
-  right = told c.count_wrong.ensures c.if-count_wrong.false;
-}
+      stands = sym c.read_number-4.ensures ∙ c.in-Number-read_number-3.is;
+      right = told c.count_wrong.ensures c.if-count_wrong.false;
+    }
 
 pub returns-in_default : goal.returns-in_default
 unfolding head_from
 returns-in_default c =
-    (no_number (refused 12) (refused 12) _ _ _ _ _ (sym c.read_number.ensures ∙ c.enum_told-1.given.1), tt)
+    record {
+      said = no_number (refused 12) (refused 12) _ _ _ _ _ (sym c.read_number.ensures ∙ c.in_default.is);
+      legal = tt;
+    }
 
 pub returns-then-kind_wrong : goal.returns-then-kind_wrong
 unfolding head_from
 returns-then-kind_wrong c =
     let read_number = c.read_number in
-    let read = sym read_number.ensures ∙ c.kind-1.given.1 in
-    (out-of-place (refused 12) (refused 12) _ _ _ _ _ _ read (ap not (told c.kind_wrong.ensures c.if-kind_wrong.true)), tt)
+    let read = sym read_number.ensures ∙ c.in-Number.is in record {
+      said = out-of-place (refused 12) (refused 12) _ _ _ _ _ _ read (ap not (told c.kind_wrong.ensures c.if-kind_wrong.true));
+      legal = tt;
+    }
 
 pub returns-in_default-read_number : goal.returns-in_default-read_number
 unfolding head_from
 returns-in_default-read_number c =
-    (goes 12 _ _ _ _ (kind-passed (goal.at.returns-in_default-read_number c).Else-kind_wrong) ∙ no_number (refused 12) (refused 1) _ _ _ _ _ (sym c.read_number-2.ensures ∙ c.enum_told-in_default-read_number-1.given.1), tt)
+    record {
+      said = goes 12 _ _ _ _ (kind-passed (goal.at.returns-in_default-read_number c).Else-kind_wrong) ∙ no_number (refused 12) (refused 1) _ _ _ _ _ (sym c.read_number-2.ensures ∙ c.in_default-read_number.is);
+      legal = tt;
+    }
 
 pub returns-in_default-new : goal.returns-in_default-new
 unfolding head_from
 returns-in_default-new c =
     let right = kind-passed (goal.at.returns-in_default-new c).Else-kind_wrong in
-    let told = c.enum_told-in_default-new-1.given in
-    let wrong = none_made _ _ right.right told.0.0 (sym (ap (changed no_chart) told.1) ∙ c.new.ensures) in (
-      goes 12 _ _ _ _ right ∙ out-of-place (refused 12) (refused 1) _ _ _ _ _ _ (sym c.read_number-2.ensures ∙ c.size-1.given.1) (ap not wrong),
-      tt,
-    )
+    let told = c.in_default-new.given in
+    let wrong = none_made _ _ right.right told.0.0 (sym (ap (changed no_chart) told.1) ∙ c.new.ensures) in record {
+      said = goes 12 _ _ _ _ right ∙ out-of-place (refused 12) (refused 1) _ _ _ _ _ _ (sym c.read_number-2.ensures ∙ c.in-Number-read_number.is) (ap not wrong);
+      legal = tt;
+    }
 
 pub returns-in_default-read_number-2 : goal.returns-in_default-read_number-2
 unfolding head_from
 returns-in_default-read_number-2 c =
-    (
-      goes 12 _ _ _ _ (kind-passed (past-kind (goal.at.returns-in_default-read_number-2 c).In-Done)) ∙ goes 1 _ _ _ _ (size-passed (goal.at.returns-in_default-read_number-2 c).In-Done)
-          ∙ no_number (refused 12) (refused 4) _ _ _ _ _ (sym c.read_number-3.ensures ∙ c.enum_told-in_default-read_number-2-1.given.1),
-      tt,
-    )
+    record {
+      said = goes 12 _ _ _ _ (kind-passed (goal.at.returns-in_default-read_number-2 c).Else-kind_wrong) ∙ goes 1 _ _ _ _ (size-passed (goal.at.returns-in_default-read_number-2 c).In-Done)
+          ∙ no_number (refused 12) (refused 4) _ _ _ _ _ (sym c.read_number-3.ensures ∙ c.in_default-read_number-2.is);
+      legal = tt;
+    }
 
 pub returns-then-set : goal.returns-then-set
 unfolding head_from
 returns-then-set c =
-    (
-      goes 12 _ _ _ _ (kind-passed (past-kind (goal.at.returns-then-set c).In-Done)) ∙ goes 1 _ _ _ _ (size-passed (goal.at.returns-then-set c).In-Done)
-          ∙ out-of-place (refused 12) (refused 4) _ _ _ _ _ _ (sym c.read_number-3.ensures ∙ c.set-1.given.1) (ap not (lt-ltb _ _ c.if-set.true)),
-      tt,
-    )
+    record {
+      said = goes 12 _ _ _ _ (kind-passed (goal.at.returns-then-set c).Else-kind_wrong) ∙ goes 1 _ _ _ _ (size-passed (goal.at.returns-then-set c).In-Done)
+          ∙ out-of-place (refused 12) (refused 4) _ _ _ _ _ _ (sym c.read_number-3.ensures ∙ c.in-Number-read_number-2.is) (ap not (lt-ltb _ _ c.if-set.true));
+      legal = tt;
+    }
 
 pub returns-in_default-read_number-3 : goal.returns-in_default-read_number-3
 unfolding head_from
 returns-in_default-read_number-3 c =
-    let size = past-size (goal.at.returns-in_default-read_number-3 c).Else-set in (
-      goes 12 _ _ _ _ (kind-passed (past-kind size)) ∙ goes 1 _ _ _ _ (size-passed size) ∙ goes 4 _ _ _ _ (set-passed (goal.at.returns-in_default-read_number-3 c).Else-set)
-          ∙ no_number (refused 12) (refused 5) _ _ _ _ _ (sym c.read_number-4.ensures ∙ c.enum_told-in_default-read_number-3-1.given.1),
-      tt,
-    )
+    record {
+      said = goes 12 _ _ _ _ (kind-passed (goal.at.returns-in_default-read_number-3 c).Else-kind_wrong) ∙ goes 1 _ _ _ _ (size-passed (goal.at.returns-in_default-read_number-3 c).In-Done) ∙ goes 4 _ _ _ _ (set-passed (goal.at.returns-in_default-read_number-3 c).Else-set)
+          ∙ no_number (refused 12) (refused 5) _ _ _ _ _ (sym c.read_number-4.ensures ∙ c.in_default-read_number-3.is);
+      legal = tt;
+    }
 
 pub count_wrong-requires : goal.count_wrong-requires
 count_wrong-requires c =
@@ -154,24 +126,20 @@ count_wrong-requires c =
 pub returns-then-count_wrong : goal.returns-then-count_wrong
 unfolding head_from
 returns-then-count_wrong c =
-    let size = past-size (goal.at.returns-then-count_wrong c).Else-set in
-    let wrong = ap not (told c.count_wrong.ensures c.if-count_wrong.true) in (
-      goes 12 _ _ _ _ (kind-passed (past-kind size)) ∙ goes 1 _ _ _ _ (size-passed size) ∙ goes 4 _ _ _ _ (set-passed (goal.at.returns-then-count_wrong c).Else-set)
-          ∙ out-of-place (refused 12) (refused 5) _ _ _ _ _ _ (sym c.read_number-4.ensures ∙ c.count-1.given.1) wrong,
-      tt,
-    )
+    let wrong = ap not (told c.count_wrong.ensures c.if-count_wrong.true) in record {
+      said = goes 12 _ _ _ _ (kind-passed (goal.at.returns-then-count_wrong c).Else-kind_wrong) ∙ goes 1 _ _ _ _ (size-passed (goal.at.returns-then-count_wrong c).In-Done) ∙ goes 4 _ _ _ _ (set-passed (goal.at.returns-then-count_wrong c).Else-set)
+          ∙ out-of-place (refused 12) (refused 5) _ _ _ _ _ _ (sym c.read_number-4.ensures ∙ c.in-Number-read_number-3.is) wrong;
+      legal = tt;
+    }
 
 pub returns : goal.returns
 unfolding head_from
 returns c =
-    let set_there = past-set c in
-    let size-there = past-size set_there in
-    let kind-there = past-kind size-there in
-    let is = sym (made size-there).1 in
+    let is = sym (made (goal.at.returns c).In-Done).1 in
     let right =
-    legal (kind kind-there) (size size-there) (set set_there) (count c) (kind-passed kind-there).right (size-passed size-there).right
-    set_there.if2.left (count-passed c).right in (
-      goes 12 _ _ _ _ (kind-passed kind-there) ∙ goes 1 _ _ _ _ (size-passed size-there) ∙ goes 4 _ _ _ _ (set-passed set_there)
-          ∙ goes 5 _ _ _ _ (count-passed c) ∙ ap (λ (chart : Chart). after_head (bytes kind-there) (Names (held set_there c chart) (next c))) is,
-      transport (λ i. Legal (held set_there c (is i))) right,
-    )
+    legal (c.in-Number.kind) (c.in-Number-read_number.size) (c.in-Number-read_number-2.set) (c.in-Number-read_number-3.count) (kind-passed (goal.at.returns c).Else-kind_wrong).right (size-passed (goal.at.returns c).In-Done).right
+    c.if-set.left (count-passed c).right in record {
+      said = goes 12 _ _ _ _ (kind-passed (goal.at.returns c).Else-kind_wrong) ∙ goes 1 _ _ _ _ (size-passed (goal.at.returns c).In-Done) ∙ goes 4 _ _ _ _ (set-passed (goal.at.returns c).Else-set)
+          ∙ goes 5 _ _ _ _ (count-passed c) ∙ ap (λ (chart : Chart). after_head (c.args.s.now) (Names (held (goal.at.returns c).Else-set c chart) (c.in-Number-read_number-3.next))) is;
+      legal = transport (λ i. Legal (held (goal.at.returns c).Else-set c (is i))) right;
+    }

@@ -17,18 +17,14 @@ loop-i-init c =
     let args = c.args in
     reads-starts args.s.now args.chart (size args.chart) args.from args.values.now
 
-pub shape_of-values-in_default : goal.shape_of-values-in_default
-shape_of-values-in_default c =
-    c.loop-i.invariant.same
-
 pub returns-in_default : goal.returns-in_default
 returns-in_default c =
     let args = c.args in
-    let loop = c.loop-i in (
-      reads-fault args.s.now args.chart (size args.chart) args.from args.values.now loop.values loop.at loop.i loop.invariant
-          c.loop-i-test.true _ (sym c.read_number.ensures ∙ c.enum_told-1.given.1),
-      tt,
-    )
+    let loop = c.loop-i in record {
+      said = reads-fault args.s.now args.chart (size args.chart) args.from args.values.now loop.values loop.at loop.i loop.invariant
+          c.loop-i-test.true _ (sym c.read_number.ensures ∙ c.in_default.is);
+      legal = tt;
+    }
 
 pub offset_bounds-values-i : goal.offset_bounds-values-i
 offset_bounds-values-i c =
@@ -54,36 +50,28 @@ loop-i-preserved c =
     let pre = c.requires in
     let loop-test = c.loop-i-test in
     let read_number = c.read_number in
-    let value = c.value-1 in
+    let value = c.in-Number in
     let args = c.args in
     let loop = c.loop-i in
     rw c.of_bits.ensures
     (reads-goes-on args.s.now args.chart (size args.chart) args.from args.values.now loop.values loop.at loop.i loop.invariant
     loop-test.true _ _ (sym read_number.ensures ∙ value.given.1) pre.0)
 
-pub shape_of-values-then-at-s : goal.shape_of-values-then-at-s
-shape_of-values-then-at-s c =
-    c.loop-i.invariant.same
-
 pub returns-then-at-s : goal.returns-then-at-s
 returns-then-at-s c =
     let args = c.args in
-    let loop = c.loop-i in (
-      reads_more args.s.now args.chart (size args.chart) args.from args.values.now loop.values loop.at loop.i loop.invariant
-          c.loop-i-test.false c.if-at-s.true,
-      tt,
-    )
-
-pub shape_of-values : goal.shape_of-values
-shape_of-values c =
-    c.loop-i.invariant.same
+    let loop = c.loop-i in record {
+      said = reads_more args.s.now args.chart (size args.chart) args.from args.values.now loop.values loop.at loop.i loop.invariant
+          c.loop-i-test.false c.if-at-s.true;
+      legal = tt;
+    }
 
 pub returns : goal.returns
 returns c =
     let pre = c.requires in
     let args = c.args in
-    let loop = c.loop-i in (
-      reads-ends args.s.now args.chart (size args.chart) args.from args.values.now loop.values loop.at loop.i loop.invariant
-          c.loop-i-test.false c.if-at-s.false,
-      pre.1,
-    )
+    let loop = c.loop-i in record {
+      said = reads-ends args.s.now args.chart (size args.chart) args.from args.values.now loop.values loop.at loop.i loop.invariant
+          c.loop-i-test.false c.if-at-s.false;
+      legal = pre.1;
+    }

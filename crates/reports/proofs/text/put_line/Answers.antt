@@ -20,12 +20,6 @@ loop-i-preserved c =
     coming-on (coming-on loop.invariant (words-next args.decimals args.xs.now loop.i loop-test.true) put-byte2.ensures)
     refl c.put_number-to.ensures
 
-pub shape_of-out : goal.shape_of-out
-shape_of-out c =
-    let put_byte = c.put_byte-to in
-    let loop = c.loop-i in
-    c.put_byte.auto.0 ∙ coming-length loop.invariant ∙ put_byte.auto.0
-
 pub returns : goal.returns
 returns c =
     let put_byte = c.put_byte-to in

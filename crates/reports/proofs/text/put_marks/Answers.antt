@@ -27,10 +27,6 @@ loop-i-preserved c =
     let loop = c.loop-i in
     coming-on loop.invariant (point-lines args.series args.first args.marks.now loop.i loop-test.true) c.put_point-to.ensures
 
-pub shape_of-out : goal.shape_of-out
-shape_of-out c =
-    coming-length c.loop-i.invariant
-
 pub returns : goal.returns
 returns c =
     let args = c.args in

@@ -28,10 +28,6 @@ loop-t-preserved c =
     coming-same loop.invariant
     (lines-off args.series args.index args.m loop.t c.loop-t-test.true (sym c.has_bit.ensures ∙ c.if-has_bit.false))
 
-pub shape_of-out : goal.shape_of-out
-shape_of-out c =
-    coming-length c.loop-t.invariant
-
 pub returns : goal.returns
 returns c =
     let args = c.args in

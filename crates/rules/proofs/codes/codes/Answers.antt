@@ -6,6 +6,6 @@ use Rattle.rules.proofs.codes.codes.Goals as goal
 
 pub returns-then-values-lt16 : goal.returns-then-values-lt16
 returns-then-values-lt16 c =
-    let s = c.before.before.before.before.before.before.before.before.before.before.before.args in
+    let s = c.args in
     let pad = c.pad in
     codes-padded s.set s.l s.values.now _ _ _ (omega arith) pad.ensures.1 pad.ensures.0 c.families.ensures

@@ -37,10 +37,6 @@ pub bounds-out-i-in-loop-i : goal.bounds-out-i-in-loop-i
 bounds-out-i-in-loop-i c =
     tabling-room _ _ _ _ _ c.loop-i.invariant c.loop-i-test.true
 
-pub shape_of-out : goal.shape_of-out
-shape_of-out c =
-    tabling-length _ _ _ _ _ c.loop-i.invariant
-
 pub returns : goal.returns
 returns c =
     tabling-ends _ _ _ _ _ c.loop-i.invariant c.loop-i-test.false

@@ -27,10 +27,6 @@ pub bounds-out-i : goal.bounds-out-i
 bounds-out-i c =
     tabling-room _ _ _ _ _ c.loop-i.invariant c.loop-i-test.true
 
-pub shape_of-out : goal.shape_of-out
-shape_of-out c =
-    tabling-length _ _ _ _ _ c.loop-i.invariant
-
 pub returns : goal.returns
 returns c =
     tabling-ends _ _ _ _ _ c.loop-i.invariant c.loop-i-test.false

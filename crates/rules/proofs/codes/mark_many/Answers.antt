@@ -59,10 +59,6 @@ pub loop-at-smaller : goal.loop-at-smaller
 loop-at-smaller c =
     omega (arith, c.least.ensures.2 0 (omega arith) (omega arith))
 
-pub shape_of-out : goal.shape_of-out
-shape_of-out c =
-    tabling-length _ _ _ _ _ c.loop-at.invariant
-
 pub returns : goal.returns
 returns c =
     tabling-ends _ _ _ _ _ c.loop-at.invariant (omega arith)

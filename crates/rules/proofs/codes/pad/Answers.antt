@@ -18,4 +18,7 @@ loop-j-preserved c =
 
 pub returns : goal.returns
 returns c =
-    (filling-ends _ _ _ _ c.loop-j.invariant (omega arith), filling-length _ _ _ _ c.loop-j.invariant ∙ c.requires.1)
+    record {
+      values = filling-ends _ _ _ _ c.loop-j.invariant (omega arith);
+      sixteen = filling-length _ _ _ _ c.loop-j.invariant ∙ c.requires.1;
+    }

@@ -28,10 +28,6 @@ pub loop-i-preserved : goal.loop-i-preserved
 loop-i-preserved c =
     reads_on _ _ _ _ _ _ c.loop-i.invariant c.loop-i-test.true _ c.standing_at.ensures
 
-pub shape_of-out : goal.shape_of-out
-shape_of-out c =
-    tabling-length _ _ _ _ _ c.loop-i.invariant
-
 pub returns : goal.returns
 returns c =
     tabling-ends _ _ _ _ _ c.loop-i.invariant c.loop-i-test.false

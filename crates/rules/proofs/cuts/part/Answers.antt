@@ -14,7 +14,7 @@ loop-i-preserved c =
     let stops = a.stops.now in
     let i = c.loop-i.i in (
       search rules,
-      c.cut_by_stop.auto.1.1.0 ∙ c.loop-i.invariant.1,
+      c.cut_by_stop.auto.marks ∙ c.loop-i.invariant.1,
       ap (by_stops cut_marks (drop (i + 1) stops) a.moving) c.cut_by_stop.ensures
           ∙ sym (stops-next cut_marks stops a.moving c.loop-i.marks i c.loop-i-test.true)
           ∙ c.loop-i.invariant.2,
@@ -28,7 +28,3 @@ returns c =
 pub loop-i-init : goal.loop-i-init
 loop-i-init c =
     (search rules, refl, refl)
-
-pub shape_of-marks : goal.shape_of-marks
-shape_of-marks c =
-    c.loop-i.invariant.1

@@ -15,13 +15,13 @@ read_head-requires c =
 
 pub check_entries-requires : goal.check_entries-requires
 check_entries-requires c =
-    zeros-front 128 (c.points-1.given.0.0 - 0)
+    zeros-front 128 (c.in-Names.points - 0)
 
 pub returns-then-points-le-FEW : goal.returns-then-points-le-FEW
 returns-then-points-le-FEW c =
     let args = c.args in
-    let points = c.points-1.given in
-    let told = sym (c.read_head.ensures.0 ∙ ap (after_head args.s.now) points.1) in
+    let points = c.in-Names.given in
+    let told = sym (c.read_head.ensures.said ∙ ap (after_head args.s.now) points.1) in
     let long = front_long 128 points.0.0 c.if-points-le-FEW.true in
     c.check_entries.ensures
     ∙ ap (judged args.set args.marks.now)
@@ -29,22 +29,22 @@ returns-then-points-le-FEW c =
 
 pub slice_bounds-stated-end-in-Names : goal.slice_bounds-stated-end-in-Names
 slice_bounds-stated-end-in-Names c =
-    let few = subst Few c.points-1.given.1 c.read_head.ensures.1 in omega arith
+    let few = subst Few c.in-Names.is c.read_head.ensures.few in omega arith
 
 pub check_entries-requires-in-Names : goal.check_entries-requires-in-Names
 check_entries-requires-in-Names c =
-    zeros-front 4096 (c.points-1.given.0.0 - 0)
+    zeros-front 4096 (c.in-Names.points - 0)
 
 pub returns-in-Faulty : goal.returns-in-Faulty
 returns-in-Faulty c =
-    ap (judged c.args.set c.args.marks.now) (sym (c.read_head.ensures.0 ∙ ap (after_head c.args.s.now) c.at-1.given.1))
+    ap (judged c.args.set c.args.marks.now) (sym (c.read_head.ensures.said ∙ ap (after_head c.args.s.now) c.in-Faulty.is))
 
 pub returns-else-points-le-FEW : goal.returns-else-points-le-FEW
 returns-else-points-le-FEW c =
     let args = c.args in
-    let points = c.points-1.given in
-    let told = sym (c.read_head.ensures.0 ∙ ap (after_head args.s.now) points.1) in
-    let long = front_long 4096 points.0.0 (subst Few points.1 c.read_head.ensures.1) in
+    let points = c.in-Names.given in
+    let told = sym (c.read_head.ensures.said ∙ ap (after_head args.s.now) points.1) in
+    let long = front_long 4096 points.0.0 (subst Few points.1 c.read_head.ensures.few) in
     c.check_entries-in-Names.ensures
     ∙ ap (judged args.set args.marks.now)
     (ap (λ (n : ℕ). entries args.s.now points.0.1.0 points.0.1.1.0 n points.0.1.1.1.0) long ∙ told)

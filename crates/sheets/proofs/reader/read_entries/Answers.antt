@@ -16,7 +16,7 @@ small c =
 
 -- how far the short ways came
 came : (c : After-struct_known-in-loop-r-1)
-    → Onward c.args.s.now c.args.set c.args.stated.now (reach 0 c.args.from c.args.count) c.read_long-r.new.1.1.0
+    → Onward c.args.s.now c.args.set c.args.stated.now (reach 0 c.args.from c.args.count) c.read_long-r.new.stated
     c.read_long-r.result
 came c =
     let args = c.args in
@@ -24,11 +24,11 @@ came c =
     on _ _ _ _ (on _ _ _ _ c.loop-r.invariant c.read_pairs-r.ensures) c.read_long-r.ensures
 
 -- the point of an entry is one of those left
-fits : (c : In-Whole) → c.read_long-r.result.point + c.skip-1.given.0.0 < length c.read_long-r.new.1.1.0
+fits : (c : In-Whole) → c.read_long-r.result.point + c.in-Whole.skip < length c.read_long-r.new.stated
 fits c =
     let args = c.args in
     let read-entry = c.read_entry in
-    let skip = c.skip-1 in
+    let skip = c.in-Whole in
     omega (
       arith,
       entry-fits args.s.now args.set _ _ 0 read-entry.result read-entry.ensures skip.given.0.0 skip.given.0.1.0
@@ -57,17 +57,13 @@ pub read_entry-requires : goal.read_entry-requires
 read_entry-requires c =
     tt
 
-pub shape_of-stated-in-Broken : goal.shape_of-stated-in-Broken
-shape_of-stated-in-Broken c =
-    (came (goal.at.shape_of-stated-in-Broken c).After-struct_known-in-loop-r-1).long
-
 pub returns-in-Broken : goal.returns-in-Broken
 returns-in-Broken c =
     let args = c.args in
     let r = c.read_long-r.result in
     let read-entry = c.read_entry in
     onward-broken args.s.now args.set args.stated.now (reach 0 args.from args.count) _ r.point r.at r.left
-    (came (goal.at.returns-in-Broken c).After-struct_known-in-loop-r-1) read-entry.result c.at-1.given.0.0 read-entry.ensures c.at-1.given.1 c.if-r-gt0.true
+    (came (goal.at.returns-in-Broken c).After-struct_known-in-loop-r-1) read-entry.result c.in-Broken.at read-entry.ensures c.in-Broken.is c.if-r-gt0.true
     ∙ told-start args.s.now args.set args.stated.now args.from args.count
 
 pub overflow_add-last : goal.overflow_add-last
@@ -99,7 +95,7 @@ loop-r-preserved-in-Whole c =
     let args = c.args in
     let r = c.read_long-r.result in
     let read-entry = c.read_entry in
-    let skip = c.skip-1 in
+    let skip = c.in-Whole in
     onward-turn args.s.now args.set args.stated.now (reach 0 args.from args.count) _ r.point r.at r.left
     (came (goal.at.loop-r-preserved-in-Whole c).After-struct_known-in-loop-r-1) read-entry.result skip.given.0.0 skip.given.0.1.0 skip.given.0.1.1.0
     read-entry.ensures skip.given.1 c.if-r-gt0.true
@@ -112,10 +108,6 @@ pub loop-r-preserved : goal.loop-r-preserved
 loop-r-preserved c =
     came (goal.at.loop-r-preserved c).After-struct_known-in-loop-r-1
 
-pub shape_of-stated-then-r-s : goal.shape_of-stated-then-r-s
-shape_of-stated-then-r-s c =
-    omega arith
-
 pub returns-then-r-s : goal.returns-then-r-s
 returns-then-r-s c =
     let args = c.args in
@@ -123,10 +115,6 @@ returns-then-r-s c =
     onward-over args.s.now args.set args.stated.now (reach 0 args.from args.count) loop.stated loop.r.point loop.r.at
     loop.r.left loop.invariant c.loop-r-test.false c.if-r-s.true
     ∙ told-start args.s.now args.set args.stated.now args.from args.count
-
-pub shape_of-stated : goal.shape_of-stated
-shape_of-stated c =
-    omega arith
 
 pub returns : goal.returns
 returns c =

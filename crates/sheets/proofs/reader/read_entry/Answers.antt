@@ -13,13 +13,13 @@ read_number-requires c =
 pub returns-in_default : goal.returns-in_default
 returns-in_default c =
     let args = c.args in
-    skip-none args.s.now args.set args.left args.at _ (sym c.read_number.ensures ∙ c.enum_told-1.given.1)
+    skip-none args.s.now args.set args.left args.at _ (sym c.read_number.ensures ∙ c.in_default.is)
 
 pub returns-then-skip-left : goal.returns-then-skip-left
 returns-then-skip-left c =
     let args = c.args in
     let read_number = c.read_number in
-    let skip = c.skip-1 in
+    let skip = c.in-Number in
     let if1 = c.if-skip-left in
     skip-past args.s.now args.set args.left args.at skip.given.0.0 skip.given.0.1.0
     (sym read_number.ensures ∙ skip.given.1) if1.true
@@ -32,10 +32,10 @@ pub returns-in_default-read_number : goal.returns-in_default-read_number
 returns-in_default-read_number c =
     let args = c.args in
     let read_number = c.read_number in
-    let skip = c.skip-1 in
+    let skip = c.in-Number in
     let if1 = c.if-skip-left in
     let read-number2 = c.read_number-2 in
-    let enum-told2 = c.enum_told-in_default-read_number-1 in
+    let enum-told2 = c.in_default-read_number in
     marks-none args.s.now args.set args.left args.at skip.given.0.0 skip.given.0.1.0
     (sym read_number.ensures ∙ skip.given.1) if1.false _ (sym read-number2.ensures ∙ enum-told2.given.1)
 
@@ -43,10 +43,10 @@ pub returns-then-marks-eq0 : goal.returns-then-marks-eq0
 returns-then-marks-eq0 c =
     let args = c.args in
     let read_number = c.read_number in
-    let skip = c.skip-1 in
+    let skip = c.in-Number in
     let if1 = c.if-skip-left in
     let read-number2 = c.read_number-2 in
-    let marks = c.marks-1 in
+    let marks = c.in-Number-read_number in
     let if2 = c.if-marks-eq0 in
     marks-zero args.s.now args.set args.left args.at skip.given.0.0 skip.given.0.1.0
     (sym read_number.ensures ∙ skip.given.1) if1.false marks.given.0.0 marks.given.0.1.0
@@ -60,10 +60,10 @@ pub returns-then-marks-wide : goal.returns-then-marks-wide
 returns-then-marks-wide c =
     let args = c.args in
     let read_number = c.read_number in
-    let skip = c.skip-1 in
+    let skip = c.in-Number in
     let if1 = c.if-skip-left in
     let read-number2 = c.read_number-2 in
-    let marks = c.marks-1 in
+    let marks = c.in-Number-read_number in
     let if2 = c.if-marks-eq0 in
     let wide = c.wide in
     let if3 = c.if-marks-wide in
@@ -73,7 +73,7 @@ returns-then-marks-wide c =
 
 pub overflow_cast-result : goal.overflow_cast-result
 overflow_cast-result c =
-    let marks = c.marks-1 in
+    let marks = c.in-Number-read_number in
     let wide = c.wide in
     omega (arith, c.if-marks-wide.false, and_le_r marks.given.0.0 wide.result, wide.ensures)
 
@@ -81,10 +81,10 @@ pub returns : goal.returns
 returns c =
     let args = c.args in
     let read_number = c.read_number in
-    let skip = c.skip-1 in
+    let skip = c.in-Number in
     let if1 = c.if-skip-left in
     let read-number2 = c.read_number-2 in
-    let marks = c.marks-1 in
+    let marks = c.in-Number-read_number in
     let if2 = c.if-marks-eq0 in
     let wide = c.wide in
     let if3 = c.if-marks-wide in

@@ -13,7 +13,10 @@ read_at_most-requires c =
 pub returns-in_default : goal.returns-in_default
 unfolding said_from
 returns-in_default c =
-    (number-fault 4096 0 _ c.args.s.now _ (sym c.read_at_most.ensures ∙ c.enum_told-1.given.1), tt)
+    record {
+      said = number-fault 4096 0 _ c.args.s.now _ (sym c.read_at_most.ensures ∙ c.in_default.is);
+      few = tt;
+    }
 
 pub overflow_cast-read_at_most : goal.overflow_cast-read_at_most
 overflow_cast-read_at_most c =
@@ -27,10 +30,12 @@ pub returns-in_default-read_at_most : goal.returns-in_default-read_at_most
 unfolding said_from
 returns-in_default-read_at_most c =
     let s = c.args.s.now in
-    let points = c.points-1.given in
+    let points = c.in-Number.given in
     let second = points.0.1.0 in
-    let first = number_read 4096 0 _ s points.0.0 second (sym c.read_at_most.ensures ∙ points.1) in
-    (first ∙ number-fault 511 second _ s _ (sym c.read_at_most-2.ensures ∙ c.enum_told-in_default-read_at_most-1.given.1), tt)
+    let first = number_read 4096 0 _ s points.0.0 second (sym c.read_at_most.ensures ∙ points.1) in record {
+      said = first ∙ number-fault 511 second _ s _ (sym c.read_at_most-2.ensures ∙ c.in_default-read_at_most.is);
+      few = tt;
+    }
 
 pub read_at_most-requires-3 : goal.read_at_most-requires-3
 read_at_most-requires-3 c =
@@ -40,30 +45,34 @@ pub returns-in_default-read_at_most-2 : goal.returns-in_default-read_at_most-2
 unfolding said_from
 returns-in_default-read_at_most-2 c =
     let s = c.args.s.now in
-    let points = c.points-1.given in
+    let points = c.in-Number.given in
     let second = points.0.1.0 in
-    let set = c.set-1.given in
+    let set = c.in-Number-read_at_most.given in
     let third = set.0.1.0 in
     let first = number_read 4096 0 _ s points.0.0 second (sym c.read_at_most.ensures ∙ points.1) in
-    let next = number_read 511 second _ s set.0.0 third (sym c.read_at_most-2.ensures ∙ set.1) in
-    (first ∙ next ∙ number-fault points.0.0 third _ s _ (sym c.read_at_most-3.ensures ∙ c.enum_told-in_default-read_at_most-2-1.given.1), tt)
+    let next = number_read 511 second _ s set.0.0 third (sym c.read_at_most-2.ensures ∙ set.1) in record {
+      said = first ∙ next ∙ number-fault points.0.0 third _ s _ (sym c.read_at_most-3.ensures ∙ c.in_default-read_at_most-2.is);
+      few = tt;
+    }
 
 pub overflow_cast-result : goal.overflow_cast-result
 overflow_cast-result c =
-    let set = c.set-1.given in
-    omega (arith, number-low 511 c.points-1.given.0.1.0 c.args.s.now set.0.0 set.0.1.0 (sym c.read_at_most-2.ensures ∙ set.1))
+    let set = c.in-Number-read_at_most.given in
+    omega (arith, number-low 511 c.in-Number.second c.args.s.now set.0.0 set.0.1.0 (sym c.read_at_most-2.ensures ∙ set.1))
 
 pub returns : goal.returns
 unfolding said_from
 returns c =
     let s = c.args.s.now in
-    let points = c.points-1.given in
+    let points = c.in-Number.given in
     let second = points.0.1.0 in
-    let set = c.set-1.given in
+    let set = c.in-Number-read_at_most.given in
     let third = set.0.1.0 in
-    let marked = c.marked-1.given in
+    let marked = c.in-Number-read_at_most-2.given in
     let read-points = sym c.read_at_most.ensures ∙ points.1 in
     let first = number_read 4096 0 _ s points.0.0 second read-points in
     let next = number_read 511 second _ s set.0.0 third (sym c.read_at_most-2.ensures ∙ set.1) in
-    let last = number_read points.0.0 third _ s marked.0.0 marked.0.1.0 (sym c.read_at_most-3.ensures ∙ marked.1) in
-    (first ∙ next ∙ last, number-low 4096 0 s points.0.0 second read-points)
+    let last = number_read points.0.0 third _ s marked.0.0 marked.0.1.0 (sym c.read_at_most-3.ensures ∙ marked.1) in record {
+      said = first ∙ next ∙ last;
+      few = number-low 4096 0 s points.0.0 second read-points;
+    }

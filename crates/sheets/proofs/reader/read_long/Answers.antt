@@ -102,33 +102,17 @@ loop-left-preserved c =
     c.byte-skip.result c.byte-low.result c.byte-high.result c.joined-marks.result (omega (arith, near (goal.at.loop-left-preserved c).Then-at-near_end)) c.loop-left-test.true
     c.byte-skip.ensures.0 c.byte-low.ensures.0 c.byte-high.ensures.0 c.byte-low.ensures.1 c.joined-marks.ensures c.if-stated-first.false c.if-marks-set.false
 
-pub shape_of-stated-else-at-near_end : goal.shape_of-stated-else-at-near_end
-shape_of-stated-else-at-near_end c =
-    c.loop-left.invariant.long
-
 pub returns-else-at-near_end : goal.returns-else-at-near_end
 returns-else-at-near_end c =
     c.loop-left.invariant
-
-pub shape_of-stated-after-loop-left : goal.shape_of-stated-after-loop-left
-shape_of-stated-after-loop-left c =
-    c.loop-left.invariant.long
 
 pub returns-after-loop-left : goal.returns-after-loop-left
 returns-after-loop-left c =
     c.loop-left.invariant
 
-pub shape_of-stated-then-stated-first : goal.shape_of-stated-then-stated-first
-shape_of-stated-then-stated-first c =
-    c.loop-left.invariant.long
-
 pub returns-then-stated-first : goal.returns-then-stated-first
 returns-then-stated-first c =
     c.loop-left.invariant
-
-pub shape_of-stated-then-marks-set : goal.shape_of-stated-then-marks-set
-shape_of-stated-then-marks-set c =
-    c.loop-left.invariant.long
 
 pub returns-then-marks-set : goal.returns-then-marks-set
 returns-then-marks-set c =

@@ -130,33 +130,17 @@ loop-left-preserved c =
     c.byte-a.result c.byte-b.result c.byte-c.result c.byte-d.result (near (goal.at.loop-left-preserved c).Then-at-near_end) c.loop-left-test.true
     c.byte-a.ensures.0 c.byte-b.ensures.0 c.byte-c.ensures.0 c.byte-d.ensures.0 c.if-stated-second.false c.if-b-set.false
 
-pub shape_of-stated-else-at-near_end : goal.shape_of-stated-else-at-near_end
-shape_of-stated-else-at-near_end c =
-    c.loop-left.invariant.long
-
 pub returns-else-at-near_end : goal.returns-else-at-near_end
 returns-else-at-near_end c =
     c.loop-left.invariant
-
-pub shape_of-stated-after-loop-left : goal.shape_of-stated-after-loop-left
-shape_of-stated-after-loop-left c =
-    c.loop-left.invariant.long
 
 pub returns-after-loop-left : goal.returns-after-loop-left
 returns-after-loop-left c =
     c.loop-left.invariant
 
-pub shape_of-stated-then-stated-second : goal.shape_of-stated-then-stated-second
-shape_of-stated-then-stated-second c =
-    c.loop-left.invariant.long
-
 pub returns-then-stated-second : goal.returns-then-stated-second
 returns-then-stated-second c =
     c.loop-left.invariant
-
-pub shape_of-stated-then-b-set : goal.shape_of-stated-then-b-set
-shape_of-stated-then-b-set c =
-    c.loop-left.invariant.long
 
 pub returns-then-b-set : goal.returns-then-b-set
 returns-then-b-set c =

@@ -107,18 +107,12 @@ loop-i-preserved c =
     writes-on args.marks.now args.out.now loop.out loop.i loop.skip loop.at loop.invariant loop-test.true if1.false
     write-entry.new.0 write-entry.result write-entry.ensures.1 write-entry.ensures.0
 
-pub shape_of-out : goal.shape_of-out
-shape_of-out c =
-    let args = c.args in
-    let loop = c.loop-i in
-    filling-length (entries_of 0 args.marks.now) args.out.now loop.out loop.at loop.invariant.filling
-
 pub returns : goal.returns
 returns c =
     let args = c.args in
     let loop = c.loop-i in
-    let loop-test = c.loop-i-test in (
-      writes-count args.marks.now args.out.now loop.out loop.i loop.skip loop.at loop.invariant loop-test.false,
-      writes_end
-          args.marks.now args.out.now loop.out loop.i loop.skip loop.at loop.invariant loop-test.false,
-    )
+    let loop-test = c.loop-i-test in record {
+      count = writes-count args.marks.now args.out.now loop.out loop.i loop.skip loop.at loop.invariant loop-test.false;
+      room = writes_end
+          args.marks.now args.out.now loop.out loop.i loop.skip loop.at loop.invariant loop-test.false;
+    }

@@ -51,15 +51,12 @@ overflow_add-result c =
       pre,
     )
 
-pub shape_of-out : goal.shape_of-out
-shape_of-out c =
-    omega arith
-
 pub returns : goal.returns
 returns c =
     let args = c.args in
     let pre = c.requires in
     let put = c.put-a in
     let put2 = c.put-b in
-    second-fills (groups args.skip) (groups args.marks) args.out.now put.new.0 put.result (pre) put.ensures.1
-    put.ensures.0 put2.new.0 put2.result put2.ensures.1 put2.ensures.0
+    let all = second-fills (groups args.skip) (groups args.marks) args.out.now put.new.0 put.result (pre) put.ensures.1
+    put.ensures.0 put2.new.0 put2.result put2.ensures.1 put2.ensures.0 in
+    record { count = all.0; room = all.1 }

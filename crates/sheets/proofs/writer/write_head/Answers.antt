@@ -53,15 +53,12 @@ overflow_add-result c =
       pre,
     )
 
-pub shape_of-out : goal.shape_of-out
-shape_of-out c =
-    omega arith
-
 pub returns : goal.returns
 returns c =
     let args = c.args in
     let pre = c.requires in
     let put = c.put-a in
     let write-entry = c.write_entry-b in
-    second-fills (groups args.points) (groups args.set ++ groups args.marked) args.out.now put.new.0 put.result (pre)
-    put.ensures.1 put.ensures.0 write-entry.new.0 write-entry.result write-entry.ensures.1 write-entry.ensures.0
+    let all = second-fills (groups args.points) (groups args.set ++ groups args.marked) args.out.now put.new.0 put.result (pre)
+    put.ensures.1 put.ensures.0 write-entry.new.0 write-entry.result write-entry.ensures.1 write-entry.ensures.0 in
+    record { count = all.0; room = all.1 }

@@ -54,7 +54,8 @@ returns-then-out-head c =
     let total = sheet-length args.set args.marks.now measure.result.marked measure.result.len measure.ensures size.result
     size2.result size3.result size.ensures.0 size2.ensures.0 size3.ensures.0 in
     let short = lt-leb (length (sheet_of args.set args.marks.now)) (length args.out.now) (omega (arith, total, if1.true)) in
-    simp short (refl, refl)
+    let all = simp short (refl, refl) in
+    record { answer = all.0; room = all.1 }
 
 pub write_head-a-requires : goal.write_head-a-requires
 write_head-a-requires c =
@@ -138,14 +139,10 @@ overflow_add-result c =
     omega (
       arith,
       (second-fills (head_of
-          (length c.args.marks.now) c.args.set c.measure-measured.result.marked) (entries_of 0 c.args.marks.now) c.args.out.now c.write_head-a.new.0 c.write_head-a.result (parts-fit
-          c.args.set c.args.marks.now c.measure-measured.result.marked c.measure-measured.result.len c.measure-measured.ensures c.args.out.now room) c.write_head-a.ensures.1 c.write_head-a.ensures.0 c.write_entries-b.new.0 c.write_entries-b.result c.write_entries-b.ensures.1 c.write_entries-b.ensures.0).0,
+          (length c.args.marks.now) c.args.set c.measure-measured.result.marked) (entries_of 0 c.args.marks.now) c.args.out.now c.write_head-a.new.out c.write_head-a.result (parts-fit
+          c.args.set c.args.marks.now c.measure-measured.result.marked c.measure-measured.result.len c.measure-measured.ensures c.args.out.now room) c.write_head-a.ensures.room c.write_head-a.ensures.count c.write_entries-b.new.out c.write_entries-b.result c.write_entries-b.ensures.room c.write_entries-b.ensures.count).0,
       parts-fit c.args.set c.args.marks.now c.measure-measured.result.marked c.measure-measured.result.len c.measure-measured.ensures c.args.out.now room,
     )
-
-pub shape_of-out : goal.shape_of-out
-shape_of-out c =
-    omega arith
 
 pub returns : goal.returns
 returns c =
@@ -167,4 +164,5 @@ returns c =
     write-head.ensures.1 write-head.ensures.0 write_entries.new.0 write_entries.result write_entries.ensures.1
     write_entries.ensures.0 in
     let parts = sheet-parts args.set args.marks.now measure.result.marked measure.result.len measure.ensures in
-    simp holds (ap (λ (n : ℕ). (0, n)) (fills.0 ∙ ap length parts), fills.1 ∙ ap (λ (l : List ℕ). at_front l args.out.now) parts)
+    let all = simp holds (ap (λ (n : ℕ). (0, n)) (fills.0 ∙ ap length parts), fills.1 ∙ ap (λ (l : List ℕ). at_front l args.out.now) parts) in
+    record { answer = all.0; room = all.1 }
