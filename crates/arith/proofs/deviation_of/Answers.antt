@@ -6,10 +6,4 @@ use Rattle.arith.proofs.deviation_of.Goals as goal
 pub returns : goal.returns
 unfolding deviation_of
 returns c =
-    let or-nan = c.or_nan in
-    let root = c.root in
-    let nearest-u64-to-f64 = c.nearest_u64_to_f64 in
-    let squares = c.squares in
-    let mean-of = c.mean_of in
-    let less_one = c.less_one-n in
-    rw (or-nan.ensures, root.ensures.1, squares.ensures, mean-of.ensures, nearest-u64-to-f64.ensures, less_one.ensures)
+    rw (c.or_nan.ensures, c.root.ensures.is, c.squares.ensures, c.mean_of.ensures, c.nearest_u64_to_f64.ensures, c.less_one-n.ensures)

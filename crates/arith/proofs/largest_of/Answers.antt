@@ -20,10 +20,7 @@ loop-i-smaller c =
 
 pub loop-i-preserved : goal.loop-i-preserved
 loop-i-preserved c =
-    let larger-of = c.larger_of-t in
-    let loop-test = c.loop-i-test in
-    let loop = c.loop-i in
-    rw larger-of.ensures (fold_more larger nan _ _ _ loop-test.true loop.invariant)
+    rw c.larger_of-t.ensures (fold_more larger nan _ _ _ c.loop-i-test.true c.loop-i.invariant)
 
 pub returns : goal.returns
 returns c =

@@ -19,14 +19,10 @@ loop-i-smaller c =
     omega arith
 
 pub loop-i-preserved : goal.loop-i-preserved
-loop-i-preserved c =
-    let smaller-of = c.smaller_of-lo in
-    let larger-of = c.larger_of-hi in
-    let loop-test = c.loop-i-test in
-    let loop = c.loop-i in (
-      rw larger-of.ensures (fold_more larger nan _ _ _ loop-test.true loop.invariant.0),
-      rw smaller-of.ensures (fold_more smaller nan _ _ _ loop-test.true loop.invariant.1),
-    )
+loop-i-preserved c = (
+  rw c.larger_of-hi.ensures (fold_more larger nan _ _ _ c.loop-i-test.true c.loop-i.invariant.0),
+  rw c.smaller_of-lo.ensures (fold_more smaller nan _ _ _ c.loop-i-test.true c.loop-i.invariant.1),
+)
 
 pub returns : goal.returns
 unfolding range_of

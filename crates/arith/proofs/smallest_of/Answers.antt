@@ -20,10 +20,7 @@ loop-i-smaller c =
 
 pub loop-i-preserved : goal.loop-i-preserved
 loop-i-preserved c =
-    let smaller-of = c.smaller_of-t in
-    let loop-test = c.loop-i-test in
-    let loop = c.loop-i in
-    rw smaller-of.ensures (fold_more smaller nan _ _ _ loop-test.true loop.invariant)
+    rw c.smaller_of-t.ensures (fold_more smaller nan _ _ _ c.loop-i-test.true c.loop-i.invariant)
 
 pub returns : goal.returns
 returns c =

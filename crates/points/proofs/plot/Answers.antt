@@ -19,9 +19,8 @@ use Rattle.points.proofs.plot.Goals as goal
 
 pub returns-then-too_short : goal.returns-then-too_short
 returns-then-too_short c =
-    let if1 = c.if-too_short in
-    let too_short = c.too_short in record {
-      answer = number-6 _ _ (told too_short.ensures if1.true);
+    record {
+      answer = number-6 _ _ (told c.too_short.ensures c.if-too_short.true);
       values = slice_kept plus_zero _ _ 6 (λ e. omega arith) refl;
       ucl = slice_kept plus_zero _ _ 6 (λ e. omega arith) refl;
       lcl = slice_kept plus_zero _ _ 6 (λ e. omega arith) refl;
@@ -64,49 +63,38 @@ slice_bounds-fill_all-end-6 c =
 
 pub returns-then-not-sound : goal.returns-then-not-sound
 returns-then-not-sound c =
-    let zero-all = c.zero_all in
-    let if2 = c.if-not-sound in
-    let fill-all = c.fill_all-sound in
-    let if1 = c.if-too_short in
-    let too_short = c.too_short in
     let args = c.args in
     let values = args.values.now in
     let ucl = args.ucl.now in
     let n = args.n in
     let g = plot_from args.cl n values ucl in
     let parts = plot-of-parts args.cl n values ucl in
-    let e = fill-all.ensures in
-    let fine = told too_short.ensures if1.false in record {
-      answer = number-7 _ g fine (sym (e.0 ∙ ap sound parts) ∙ not-true fill-all.result if2.true);
-      values = slice-7 plus_zero (take n values) values values refl zero-all.ensures.0;
-      ucl = part-zeroed plus_zero n (uppers g) fill-all.new.1.1.0 args.ucl.now fill-all.auto.1.1.0 zero-all.ensures.1.0;
-      lcl = part-zeroed plus_zero n (lowers g) fill-all.new.1.1.1.0 args.lcl.now fill-all.auto.1.1.1.0 zero-all.ensures.1.1.0;
-      out = part-zeroed false n (outs g) fill-all.new.1.1.1.1.0 args.out.now fill-all.auto.1.1.1.1.0 zero-all.ensures.1.1.1.0;
-      z = part-zeroed plus_zero n (zs g) fill-all.new.1.1.1.1.1.0 args.z.now fill-all.auto.1.1.1.1.1.0 zero-all.ensures.1.1.1.1.0;
-      has_z = part-zeroed false n (has_zs g) fill-all.new.1.1.1.1.1.1.0 args.has-z.now fill-all.auto.1.1.1.1.1.1.0 zero-all.ensures.1.1.1.1.1;
+    let fine = told c.too_short.ensures c.if-too_short.false in record {
+      answer = number-7 _ g fine (sym (c.fill_all-sound.ensures.sound ∙ ap sound parts) ∙ not-true c.fill_all-sound.result c.if-not-sound.true);
+      values = slice-7 plus_zero (take n values) values values refl c.zero_all.ensures.values;
+      ucl = part-zeroed plus_zero n (uppers g) c.fill_all-sound.new.ucl args.ucl.now c.fill_all-sound.auto.ucl c.zero_all.ensures.ucl;
+      lcl = part-zeroed plus_zero n (lowers g) c.fill_all-sound.new.lcl args.lcl.now c.fill_all-sound.auto.lcl c.zero_all.ensures.lcl;
+      out = part-zeroed false n (outs g) c.fill_all-sound.new.out args.out.now c.fill_all-sound.auto.out c.zero_all.ensures.out;
+      z = part-zeroed plus_zero n (zs g) c.fill_all-sound.new.z args.z.now c.fill_all-sound.auto.z c.zero_all.ensures.z;
+      has_z = part-zeroed false n (has_zs g) c.fill_all-sound.new.has_z args.has-z.now c.fill_all-sound.auto.has_z c.zero_all.ensures.has_z;
     }
 
 pub returns : goal.returns
 returns c =
-    let if2 = c.if-not-sound in
-    let fill-all = c.fill_all-sound in
-    let if1 = c.if-too_short in
-    let too_short = c.too_short in
     let args = c.args in
     let values = args.values.now in
     let ucl = args.ucl.now in
     let n = args.n in
     let g = plot_from args.cl n values ucl in
     let parts = plot-of-parts args.cl n values ucl in
-    let e = fill-all.ensures in
-    let fine = told too_short.ensures if1.false in
+    let fine = told c.too_short.ensures c.if-too_short.false in
     let room = has_room _ _ _ _ _ _ _ fine in
     let long = length-take-le n values room.in-values in record {
-      answer = number-0 _ g fine (sym (e.0 ∙ ap sound parts) ∙ not-false fill-all.result if2.false);
+      answer = number-0 _ g fine (sym (c.fill_all-sound.ensures.sound ∙ ap sound parts) ∙ not-false c.fill_all-sound.result c.if-not-sound.false);
       values = front_kept plus_zero n values room.in-values;
-      ucl = part-written plus_zero n (uppers g) fill-all.new.1.1.0 args.ucl.now (e.1.0 ∙ ap uppers parts) (column-length (λ p. p.ucl) g ∙ long);
-      lcl = part-written plus_zero n (lowers g) fill-all.new.1.1.1.0 args.lcl.now (e.1.1.0 ∙ ap lowers parts) (column-length (λ p. p.lcl) g ∙ long);
-      out = part-written false n (outs g) fill-all.new.1.1.1.1.0 args.out.now (e.1.1.1.0 ∙ ap outs parts) (column-length (λ p. p.out_of_control) g ∙ long);
-      z = part-written plus_zero n (zs g) fill-all.new.1.1.1.1.1.0 args.z.now (e.1.1.1.1.0 ∙ ap zs parts) (column-length (λ p. p.z) g ∙ long);
-      has_z = part-written false n (has_zs g) fill-all.new.1.1.1.1.1.1.0 args.has-z.now (e.1.1.1.1.1 ∙ ap has_zs parts) (column-length (λ p. p.has_z) g ∙ long);
+      ucl = part-written plus_zero n (uppers g) c.fill_all-sound.new.ucl args.ucl.now (c.fill_all-sound.ensures.ucl ∙ ap uppers parts) (column-length (λ p. p.ucl) g ∙ long);
+      lcl = part-written plus_zero n (lowers g) c.fill_all-sound.new.lcl args.lcl.now (c.fill_all-sound.ensures.lcl ∙ ap lowers parts) (column-length (λ p. p.lcl) g ∙ long);
+      out = part-written false n (outs g) c.fill_all-sound.new.out args.out.now (c.fill_all-sound.ensures.out ∙ ap outs parts) (column-length (λ p. p.out_of_control) g ∙ long);
+      z = part-written plus_zero n (zs g) c.fill_all-sound.new.z args.z.now (c.fill_all-sound.ensures.z ∙ ap zs parts) (column-length (λ p. p.z) g ∙ long);
+      has_z = part-written false n (has_zs g) c.fill_all-sound.new.has_z args.has-z.now (c.fill_all-sound.ensures.has_z ∙ ap has_zs parts) (column-length (λ p. p.has_z) g ∙ long);
     }

@@ -11,8 +11,7 @@ still h k e = omega (arith, h, k, e)
 pub hold-requires : goal.hold-requires
 hold-requires c =
     let p = c.requires in
-    let l = c.left_by-left.ensures in
     let k = c.Answers-of.auto.1.1.1 in record {
-      n_in_bounds = (still l.0 p.0.0 k.1.0, still l.1 p.0.1 k.1.1.0);
-      n_in_bounds_2 = (still l.0 p.1.0 k.1.1.1.0, still l.1 p.1.1 k.1.1.1.1.0);
+      n_in_bounds = (still c.left_by-left.ensures.0 p.0.0 k.1.0, still c.left_by-left.ensures.1 p.0.1 k.1.1.0);
+      n_in_bounds_2 = (still c.left_by-left.ensures.0 p.1.0 k.1.1.1.0, still c.left_by-left.ensures.1 p.1.1 k.1.1.1.1.0);
     }

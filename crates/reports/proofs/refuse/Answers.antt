@@ -13,7 +13,5 @@ returns-then-out-n c =
 pub returns : goal.returns
 returns c =
     let args = c.args in
-    let put-refusal = c.put_refusal-n in
-    let if1 = c.if-out-n in
-    let all = told-whole (r_line args.why) args.out.now _ _ put-refusal.ensures if1.false _ _ c.put_refusal.ensures in
+    let all = told-whole (r_line args.why) args.out.now _ _ c.put_refusal-n.ensures c.if-out-n.false _ _ c.put_refusal.ensures in
     record { answer = all.0; room = all.1 }

@@ -53,10 +53,8 @@ pub returns-in-Refused : goal.returns-in-Refused
 unfolding text_of
 returns-in-Refused c =
     let args = c.args in
-    let read-flow = c.read_flow in
-    let why = c.in-Refused.given in
-    let is : text_of args.input.now ≡ r_line why.0.0 =
-    ap text_on (read-flow.ensures.0 ∙ ap (λ (f : Flow). said_by f read-flow.new.1.0) why.1) in
+    let is : text_of args.input.now ≡ r_line c.in-Refused.why =
+    ap text_on (c.read_flow.ensures.said ∙ ap (λ (f : Flow). said_by f c.read_flow.new.values) c.in-Refused.is) in
     let all = told-as _ _ args.out.now (sym is) c.refuse.ensures in
     record { answer = all.0; room = all.1 }
 

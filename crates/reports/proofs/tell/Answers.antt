@@ -19,23 +19,18 @@ put_chart-n-requires c =
 
 pub returns-then-out-n : goal.returns-then-out-n
 returns-then-out-n c =
-    let first-index = c.first_index-first in
-    let is = ap (text (goal.at.returns-then-out-n c).Start) first-index.ensures.0 in
+    let is = ap (text (goal.at.returns-then-out-n c).Start) c.first_index-first.ensures.0 in
     let all = told-short (text (goal.at.returns-then-out-n c).Start (first_index c.args.chart)) c.args.out.now _ _ (put_as is c.put_chart-n.ensures) c.if-out-n.true in
     record { answer = all.0; room = all.1 }
 
 pub put_chart-requires : goal.put_chart-requires
 put_chart-requires c =
     let pre = c.requires in
-    let first-index = c.first_index-first in
-    rw first-index.ensures.0 pre
+    rw c.first_index-first.ensures.0 pre
 
 pub returns : goal.returns
 returns c =
-    let first-index = c.first_index-first in
-    let put-chart = c.put_chart-n in
-    let if1 = c.if-out-n in
-    let is = ap (text (goal.at.returns c).Start) first-index.ensures.0 in
-    let all = told-whole (text (goal.at.returns c).Start (first_index c.args.chart)) c.args.out.now _ _ (put_as is put-chart.ensures) if1.false _ _
+    let is = ap (text (goal.at.returns c).Start) c.first_index-first.ensures.0 in
+    let all = told-whole (text (goal.at.returns c).Start (first_index c.args.chart)) c.args.out.now _ _ (put_as is c.put_chart-n.ensures) c.if-out-n.false _ _
     (put_as is c.put_chart.ensures) in
     record { answer = all.0; room = all.1 }

@@ -25,7 +25,7 @@ wrapping_sub_u64-taken-requires c =
 pub overflow_sub-rem-in-loop-rem : goal.overflow_sub-rem-in-loop-rem
 overflow_sub-rem-in-loop-rem c =
     let k = c.wrapping_sub_u64-taken in
-    enough c.loop-rem.invariant k.result (omega (arith, k.type_inv)) k.ensures
+    enough c.loop-rem.invariant k.result (omega (arith, k.type_inv)) k.ensures.value
 
 pub overflow_sub-trial : goal.overflow_sub-trial
 overflow_sub-trial c =
@@ -38,7 +38,7 @@ overflow_add-trial c =
 pub returns-then-unit-eq0 : goal.returns-then-unit-eq0
 returns-then-unit-eq0 c =
     let k = c.wrapping_sub_u64-taken in
-    ended c.loop-rem.invariant k.result (omega (arith, k.type_inv)) k.ensures (omega arith)
+    ended c.loop-rem.invariant k.result (omega (arith, k.type_inv)) k.ensures.value (omega arith)
 
 pub loop-rem-smaller : goal.loop-rem-smaller
 loop-rem-smaller c =
@@ -47,7 +47,7 @@ loop-rem-smaller c =
 pub loop-rem-preserved : goal.loop-rem-preserved
 loop-rem-preserved c =
     let k = c.wrapping_sub_u64-taken in
-    again c.loop-rem.invariant k.result (omega (arith, k.type_inv)) k.ensures (omega arith)
+    again c.loop-rem.invariant k.result (omega (arith, k.type_inv)) k.ensures.value (omega arith)
 
 pub overflow_sub-result : goal.overflow_sub-result
 overflow_sub-result c =

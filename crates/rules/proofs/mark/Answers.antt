@@ -14,16 +14,14 @@ use Rattle.rules.proofs.mark.Goals as goal
 
 pub returns-then-number-ne0 : goal.returns-then-number-ne0
 returns-then-number-ne0 c =
-    let told = c.ahead-refused.ensures in
-    let number = c.number.ensures in
     let args = c.args in
     let terms = under args.limits args.width args.stops.now args.moving in
     let set = args.set.mask in
     let values = args.values.now in
     let old = args.marks.now in
-    let some : refusal terms set values ≡ 0 → ⊥ = λ e. c.if-number-ne0.true (number ∙ told ∙ e) in
+    let some : refusal terms set values ≡ 0 → ⊥ = λ e. c.if-number-ne0.true (c.number.ensures ∙ c.ahead-refused.ensures ∙ e) in
     let answer = answer-refused terms set values (length old) some in record {
-      answer = told ∙ sym answer;
+      answer = c.ahead-refused.ensures ∙ sym answer;
       marks = marks-kept terms set values old (λ e. some (sym answer ∙ e));
     }
 

@@ -18,9 +18,8 @@ use Rattle.sheets.proofs.check_in.Goals as goal
 
 done : (c : In-Done) → Made ((under c.args.limits c.args.width c.args.stops.now c.args.moving)) c.args.set.mask c.args.values.now c.args.marks.now c.mark.new.marks
 done c =
-    let mark = c.mark in
-    made ((under c.args.limits c.args.width c.args.stops.now c.args.moving)) c.args.set.mask c.args.values.now c.args.marks.now _ mark.result c.pre mark.ensures.0
-    (ap numbered c.in-Done.is) mark.ensures.1
+    made ((under c.args.limits c.args.width c.args.stops.now c.args.moving)) c.args.set.mask c.args.values.now c.args.marks.now _ c.mark.result c.pre c.mark.ensures.answer
+    (ap numbered c.in-Done.is) c.mark.ensures.marks
 
 pub slice_bounds-check_marks-end : goal.slice_bounds-check_marks-end
 slice_bounds-check_marks-end c =
@@ -36,11 +35,9 @@ returns-in-Done c =
 
 pub returns-in-Refused : goal.returns-in-Refused
 returns-in-Refused c =
-    let mark = c.mark in
-    let why = c.in-Refused.given in
-    let told = refusal_is ((under c.args.limits c.args.width c.args.stops.now c.args.moving)) c.args.set.mask c.args.values.now (length c.args.marks.now) c.requires mark.result
-    (Refused why.0.0) mark.ensures.0 why.1 in
-    let some : refusal ((under c.args.limits c.args.width c.args.stops.now c.args.moving)) c.args.set.mask c.args.values.now ≡ 0 → ⊥ = λ e. omega (arith, number-above why.0.0, told, e) in
+    let told = refusal_is ((under c.args.limits c.args.width c.args.stops.now c.args.moving)) c.args.set.mask c.args.values.now (length c.args.marks.now) c.requires c.mark.result
+    (Refused c.in-Refused.why) c.mark.ensures.answer c.in-Refused.is in
+    let some : refusal ((under c.args.limits c.args.width c.args.stops.now c.args.moving)) c.args.set.mask c.args.values.now ≡ 0 → ⊥ = λ e. omega (arith, number-above c.in-Refused.why, told, e) in
     ap plain (sym told) ∙ check-refused ((under c.args.limits c.args.width c.args.stops.now c.args.moving)) c.args.set.mask c.args.values.now some c.args.sheet.now
 
 pub mark-requires : goal.mark-requires

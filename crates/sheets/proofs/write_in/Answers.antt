@@ -20,9 +20,8 @@ use Rattle.sheets.proofs.write_in.Goals as goal
 
 done : (c : In-Done) → Made ((under c.args.limits c.args.width c.args.stops.now c.args.moving)) c.args.set.mask c.args.values.now c.args.marks.now c.mark.new.marks
 done c =
-    let mark = c.mark in
-    made ((under c.args.limits c.args.width c.args.stops.now c.args.moving)) c.args.set.mask c.args.values.now c.args.marks.now _ mark.result c.pre mark.ensures.0
-    (ap numbered c.in-Done.is) mark.ensures.1
+    made ((under c.args.limits c.args.width c.args.stops.now c.args.moving)) c.args.set.mask c.args.values.now c.args.marks.now _ c.mark.result c.pre c.mark.ensures.answer
+    (ap numbered c.in-Done.is) c.mark.ensures.marks
 
 pub slice_bounds-write_marks-end : goal.slice_bounds-write_marks-end
 slice_bounds-write_marks-end c =
@@ -41,19 +40,16 @@ returns-in-Done c =
     let all = done (goal.at.returns-in-Done c).In-Done in
     let set = c.args.set.mask in
     let values = c.args.values.now in
-    let out = c.args.out.now in
-    let written = c.write_marks.ensures in record {
-      answer = written.0 ∙ ap (λ (ms : List ℕ). room_for (sheet_of set ms) (length out)) all.front ∙ write_done ((under c.args.limits c.args.width c.args.stops.now c.args.moving)) set values all.none (length out);
-      room = written.1 ∙ ap (λ (ms : List ℕ). at_front_if_room (sheet_of set ms) out) all.front ∙ room-done ((under c.args.limits c.args.width c.args.stops.now c.args.moving)) set values all.none out;
+    let out = c.args.out.now in record {
+      answer = c.write_marks.ensures.answer ∙ ap (λ (ms : List ℕ). room_for (sheet_of set ms) (length out)) all.front ∙ write_done ((under c.args.limits c.args.width c.args.stops.now c.args.moving)) set values all.none (length out);
+      room = c.write_marks.ensures.room ∙ ap (λ (ms : List ℕ). at_front_if_room (sheet_of set ms) out) all.front ∙ room-done ((under c.args.limits c.args.width c.args.stops.now c.args.moving)) set values all.none out;
     }
 
 pub returns-in-Refused : goal.returns-in-Refused
 returns-in-Refused c =
-    let mark = c.mark in
-    let why = c.in-Refused.given in
-    let told = refusal_is ((under c.args.limits c.args.width c.args.stops.now c.args.moving)) c.args.set.mask c.args.values.now (length c.args.marks.now) c.requires mark.result
-    (Refused why.0.0) mark.ensures.0 why.1 in
-    let some : refusal ((under c.args.limits c.args.width c.args.stops.now c.args.moving)) c.args.set.mask c.args.values.now ≡ 0 → ⊥ = λ e. omega (arith, number-above why.0.0, told, e) in
+    let told = refusal_is ((under c.args.limits c.args.width c.args.stops.now c.args.moving)) c.args.set.mask c.args.values.now (length c.args.marks.now) c.requires c.mark.result
+    (Refused c.in-Refused.why) c.mark.ensures.answer c.in-Refused.is in
+    let some : refusal ((under c.args.limits c.args.width c.args.stops.now c.args.moving)) c.args.set.mask c.args.values.now ≡ 0 → ⊥ = λ e. omega (arith, number-above c.in-Refused.why, told, e) in
     let out = c.args.out.now in record {
       answer = ap (λ (n : ℕ). (n, 0)) (sym told) ∙ write-refused ((under c.args.limits c.args.width c.args.stops.now c.args.moving)) c.args.set.mask c.args.values.now some (length out);
       room = room-refused ((under c.args.limits c.args.width c.args.stops.now c.args.moving)) c.args.set.mask c.args.values.now some out;

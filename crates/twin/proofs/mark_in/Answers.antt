@@ -22,33 +22,29 @@ returns-then-refused-ne0 c =
     let args = c.args in
     let bs = args.values.now in
     let terms = unstopped args.limits in
-    let read = c.read_values-refused in
-    let all = mark-stops args.limits args.set bs read.result read.ensures.0 c.if-refused-ne0.true args.marks.now in
+    let all = mark-stops args.limits args.set bs c.read_values-refused.result c.read_values-refused.ensures.value c.if-refused-ne0.true args.marks.now in
     record { answer = all.0; marks = all.1 }
 
 pub slice_bounds-mark_values-end : goal.slice_bounds-mark_values-end
 slice_bounds-mark_values-end c =
     let args = c.args in
     let bs = args.values.now in
-    let read = c.read_values-refused in
-    let started = sym read.ensures.0 ∙ c.if-refused-ne0.false in
-    omega (arith, c.requires.0 (begun bs args.set started).few, read.auto.1.1.0)
+    let started = sym c.read_values-refused.ensures.value ∙ c.if-refused-ne0.false in
+    omega (arith, c.requires.0 (begun bs args.set started).few, c.read_values-refused.auto.vs)
 
 pub overflow_cast-set : goal.overflow_cast-set
 overflow_cast-set c =
     let args = c.args in
     let bs = args.values.now in
-    let read = c.read_values-refused in
-    let started = sym read.ensures.0 ∙ c.if-refused-ne0.false in
+    let started = sym c.read_values-refused.ensures.value ∙ c.if-refused-ne0.false in
     omega (arith, (begun bs args.set started).small)
 
 pub mark_values-requires : goal.mark_values-requires
 mark_values-requires c =
     let args = c.args in
     let bs = args.values.now in
-    let read = c.read_values-refused in
-    let started = sym read.ensures.0 ∙ c.if-refused-ne0.false in
-    let values = values-front bs args.set started _ read.new.1.1.0 (length bs / 8 - 0) (omega arith) read.ensures.1 in
+    let started = sym c.read_values-refused.ensures.value ∙ c.if-refused-ne0.false in
+    let values = values-front bs args.set started _ c.read_values-refused.new.vs (length bs / 8 - 0) (omega arith) c.read_values-refused.ensures.vs_after in
     let count = ap length values ∙ length-floats bs in
     omega (arith, count, c.requires.1 (omega (arith, count, few)))
 
@@ -57,11 +53,9 @@ returns c =
     let args = c.args in
     let bs = args.values.now in
     let terms = unstopped args.limits in
-    let read = c.read_values-refused in
-    let started = sym read.ensures.0 ∙ c.if-refused-ne0.false in
-    let values = values-front bs args.set started _ read.new.1.1.0 (length bs / 8 - 0) (omega arith) read.ensures.1 in
-    let mark = c.mark_values.ensures in
+    let started = sym c.read_values-refused.ensures.value ∙ c.if-refused-ne0.false in
+    let values = values-front bs args.set started _ c.read_values-refused.new.vs (length bs / 8 - 0) (omega arith) c.read_values-refused.ensures.vs_after in
     let goes = mark-goes args.limits args.set bs started args.marks.now in record {
-      answer = mark.0 ∙ ap (λ (vs : List Float). answer_of terms args.set vs (length args.marks.now / 2)) values ∙ goes.0;
-      marks = mark.1 ∙ ap (λ (vs : List Float). bytes_after terms args.set vs args.marks.now) values ∙ goes.1;
+      answer = c.mark_values.ensures.value ∙ ap (λ (vs : List Float). answer_of terms args.set vs (length args.marks.now / 2)) values ∙ goes.0;
+      marks = c.mark_values.ensures.marks_after ∙ ap (λ (vs : List Float). bytes_after terms args.set vs args.marks.now) values ∙ goes.1;
     }

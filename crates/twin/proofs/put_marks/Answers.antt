@@ -17,36 +17,30 @@ loop-i-init c =
 pub bounds-out-i : goal.bounds-out-i
 bounds-out-i c =
     let args = c.args in
-    let loop = c.loop-i in
-    let kept = filling-length (bytes_of args.ms.now) args.out.now loop.out (2 * loop.i) loop.invariant in
+    let kept = filling-length (bytes_of args.ms.now) args.out.now c.loop-i.out (2 * c.loop-i.i) c.loop-i.invariant in
     omega (arith, kept, c.loop-i-test.true, c.requires)
 
 pub bounds-out-i-in-loop-i : goal.bounds-out-i-in-loop-i
 bounds-out-i-in-loop-i c =
     let args = c.args in
-    let loop = c.loop-i in
-    let kept = filling-length (bytes_of args.ms.now) args.out.now loop.out (2 * loop.i) loop.invariant in
+    let kept = filling-length (bytes_of args.ms.now) args.out.now c.loop-i.out (2 * c.loop-i.i) c.loop-i.invariant in
     simp length-set (omega (arith, kept, c.loop-i-test.true, c.requires))
 
 pub loop-i-preserved : goal.loop-i-preserved
 loop-i-preserved c =
     let args = c.args in
-    let loop = c.loop-i in
-    let low = c.low in
-    let high = c.high in
     let bytes = bytes_of args.ms.now in
-    let here : loop.i < length args.ms.now = c.loop-i-test.true in
+    let here : c.loop-i.i < length args.ms.now = c.loop-i-test.true in
     let many = length-bytes args.ms.now in
-    let two : 2 * loop.i + 1 + 1 ≡ 2 * (loop.i + 1) = omega arith in
-    let first = filling-goes-on bytes args.out.now loop.out (2 * loop.i) loop.invariant 0 low.result (omega arith)
-    (low.ensures ∙ sym (low_byte args.ms.now loop.i here)) in
-    let second = filling-goes-on bytes args.out.now (set loop.out (2 * loop.i) low.result) (2 * loop.i + 1) first 0 high.result
-    (omega arith) (high.ensures ∙ sym (high_byte args.ms.now loop.i here)) in
-    subst (Filling bytes args.out.now (set (set loop.out (2 * loop.i) low.result) (2 * loop.i + 1) high.result)) two second
+    let two : 2 * c.loop-i.i + 1 + 1 ≡ 2 * (c.loop-i.i + 1) = omega arith in
+    let first = filling-goes-on bytes args.out.now c.loop-i.out (2 * c.loop-i.i) c.loop-i.invariant 0 c.low.result (omega arith)
+    (c.low.ensures ∙ sym (low_byte args.ms.now c.loop-i.i here)) in
+    let second = filling-goes-on bytes args.out.now (set c.loop-i.out (2 * c.loop-i.i) c.low.result) (2 * c.loop-i.i + 1) first 0 c.high.result
+    (omega arith) (c.high.ensures ∙ sym (high_byte args.ms.now c.loop-i.i here)) in
+    subst (Filling bytes args.out.now (set (set c.loop-i.out (2 * c.loop-i.i) c.low.result) (2 * c.loop-i.i + 1) c.high.result)) two second
 
 pub returns : goal.returns
 returns c =
     let args = c.args in
-    let loop = c.loop-i in
-    filling-ends (bytes_of args.ms.now) args.out.now loop.out (2 * loop.i) loop.invariant
+    filling-ends (bytes_of args.ms.now) args.out.now c.loop-i.out (2 * c.loop-i.i) c.loop-i.invariant
     (omega (arith, length-bytes args.ms.now, c.loop-i-test.false))

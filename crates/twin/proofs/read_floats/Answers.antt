@@ -17,30 +17,26 @@ loop-i-init c =
 pub offset_bounds-out-i : goal.offset_bounds-out-i
 offset_bounds-out-i c =
     let args = c.args in
-    let loop = c.loop-i in
     let b = args.b.now in
-    omega (arith, tabling-room (float_at b) (length b / 8) args.out.now loop.out loop.i loop.invariant c.loop-i-test.true)
+    omega (arith, tabling-room (float_at b) (length b / 8) args.out.now c.loop-i.out c.loop-i.i c.loop-i.invariant c.loop-i-test.true)
 
 pub bounds-out-i : goal.bounds-out-i
 bounds-out-i c =
     let args = c.args in
-    let loop = c.loop-i in
     let b = args.b.now in
-    tabling-room (float_at b) (length b / 8) args.out.now loop.out loop.i loop.invariant c.loop-i-test.true
+    tabling-room (float_at b) (length b / 8) args.out.now c.loop-i.out c.loop-i.i c.loop-i.invariant c.loop-i-test.true
 
 pub loop-i-preserved : goal.loop-i-preserved
 unfolding float_at
 loop-i-preserved c =
     let args = c.args in
-    let loop = c.loop-i in
     let b = args.b.now in
-    tabling-goes-on (float_at b) (length b / 8) args.out.now loop.out loop.i loop.invariant c.of_bits.result
+    tabling-goes-on (float_at b) (length b / 8) args.out.now c.loop-i.out c.loop-i.i c.loop-i.invariant c.of_bits.result
     c.loop-i-test.true (c.of_bits.ensures ∙ ap (of_bits binary64) c.word.ensures)
 
 pub returns : goal.returns
 unfolding floats_of
 returns c =
     let args = c.args in
-    let loop = c.loop-i in
     let b = args.b.now in
-    tabling-ends (float_at b) (length b / 8) args.out.now loop.out loop.i loop.invariant c.loop-i-test.false
+    tabling-ends (float_at b) (length b / 8) args.out.now c.loop-i.out c.loop-i.i c.loop-i.invariant c.loop-i-test.false

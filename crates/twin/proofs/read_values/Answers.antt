@@ -38,8 +38,5 @@ read_floats-requires c =
 pub returns : goal.returns
 unfolding early values_after first_of
 returns c =
-    let if1 = c.if-b-ne0 in
-    let if2 = c.if-b-gt-MOST in
-    let if3 = c.if-set in
-    let all = simp (eq-eqb _ _ if1.false, le-ltb _ _ if2.false, le-ltb _ _ if3.false) (refl, c.read_floats.ensures) in
+    let all = simp (eq-eqb _ _ c.if-b-ne0.false, le-ltb _ _ c.if-b-gt-MOST.false, le-ltb _ _ c.if-set.false) (refl, c.read_floats.ensures) in
     record { value = all.0; vs_after = all.1 }

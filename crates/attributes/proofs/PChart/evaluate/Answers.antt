@@ -39,23 +39,18 @@ fill_sizes-requires c =
 
 pub evaluate-requires : goal.evaluate-requires
 evaluate-requires c =
-    let fill-sizes = c.fill_sizes in
     let h = held-P _ _ _ (record-right (goal.at.evaluate-requires c).In-Passed) in
     let r = room (goal.at.evaluate-requires c).In-Passed in
-    (h.in-counts, r.in-values, omega (arith, r.in-ucl, fill-sizes.auto.1.1.0), r.in-lcl, r.in-out, r.in-z, r.in-has-z, counts-fit-P _ _ _ (record-right (goal.at.evaluate-requires c).In-Passed))
+    (h.in-counts, r.in-values, omega (arith, r.in-ucl, c.fill_sizes.auto.out), r.in-lcl, r.in-out, r.in-z, r.in-has-z, counts-fit-P _ _ _ (record-right (goal.at.evaluate-requires c).In-Passed))
 
 pub returns-in-Refused : goal.returns-in-Refused
 unfolding evaluate_p
 returns-in-Refused c =
-    let why = c.in-Refused in
-    let check = c.check in
-    let too_short = c.too_short-short in
-    let wrong = c.wrong-wrong in
     let args = c.args in
     let n = args.self.count in
     let g = plot_p args.self args.counts.now args.sizes.now in
-    let is = why.given.1 in
-    let found = check.ensures ∙ ap₂ (λ (w s : Bool). first_of (ahead w n s) 0) wrong.ensures too_short.ensures in record {
+    let is = c.in-Refused.is in
+    let found = c.check.ensures ∙ ap₂ (λ (w s : Bool). first_of (ahead w n s) 0) c.wrong-wrong.ensures c.too_short-short.ensures in record {
       answer = answer-refused _ n _ g is found _;
       values = slice-refused _ n _ g is found plus_zero _ _;
       ucl = slice-refused _ n _ g is found plus_zero _ _;
@@ -68,15 +63,11 @@ returns-in-Refused c =
 pub returns-in-Passed : goal.returns-in-Passed
 unfolding evaluate_p plot_p
 returns-in-Passed c =
-    let evaluate = c.evaluate in
-    let variance = c.variance in
-    let fill-sizes = c.fill_sizes in
-    let centre = c.centre-cl in
     let args = c.args in
     let n = args.self.count in
     let none = sym c.check.ensures ∙ ap tested c.in-Passed.is in
     let is = ap₂ (λ (w s : Bool). first_of (ahead w n s) 0) c.wrong-wrong.ensures c.too_short-short.ensures in
     let all = finished args.counts.now n (sizes_p n args.sizes.now) args.ucl.now (length-tabulate _ n) (room (goal.at.returns-in-Passed c).In-Passed).in-ucl
-    fill-sizes.ensures centre.ensures (variance.ensures ∙ ap variance_p centre.ensures)
-    _ n _ args.values.now args.lcl.now args.out.now args.z.now args.has-z.now (sym is ∙ none) evaluate.ensures in
+    c.fill_sizes.ensures c.centre-cl.ensures (c.variance.ensures ∙ ap variance_p c.centre-cl.ensures)
+    _ n _ args.values.now args.lcl.now args.out.now args.z.now args.has-z.now (sym is ∙ none) c.evaluate.ensures in
     record { answer = all.0; values = all.1.0; ucl = all.1.1.0; lcl = all.1.1.1.0; out = all.1.1.1.1.0; z = all.1.1.1.1.1.0; has_z = all.1.1.1.1.1.1 }

@@ -13,12 +13,9 @@ room : (c : In-Passed)
     → let args = c.args in
     Fits args.self.count (length args.counts.now) (length args.sizes.now)
 room c =
-    let adding = c.adding in
-    let sample = c.sample-sample in
-    let record-wrong = c.record_wrong-wrong in
     let args = c.args in
-    fits record-wrong.result sample.result args.self.count (length args.counts.now) (length args.sizes.now)
-    (sym adding.ensures ∙ ap tested c.in-Passed.is)
+    fits c.record_wrong-wrong.result c.sample-sample.result args.self.count (length args.counts.now) (length args.sizes.now)
+    (sym c.adding.ensures ∙ ap tested c.in-Passed.is)
 
 pub offset_bounds-counts-at : goal.offset_bounds-counts-at
 offset_bounds-counts-at c =
@@ -43,14 +40,10 @@ overflow_add-chart c =
 pub returns-in-Refused : goal.returns-in-Refused
 unfolding add_u every
 returns-in-Refused c =
-    let why = c.in-Refused in
-    let adding = c.adding in
-    let sample = c.sample-sample in
-    let record-wrong = c.record_wrong-wrong in
     let args = c.args in
-    let found = numbered sample.result (sample_u args.damaged args.units) args.self.count _ _ record-wrong.ensures sample.ensures refl adding.ensures in
-    let is = why.given.1 in record {
-      answer = add-refused _ args.self _ refl adding.result found is;
+    let found = numbered c.sample-sample.result (sample_u args.damaged args.units) args.self.count _ _ c.record_wrong-wrong.ensures c.sample-sample.ensures refl c.adding.ensures in
+    let is = c.in-Refused.is in record {
+      answer = add-refused _ args.self _ refl c.adding.result found is;
       counts = kept-refused is args.self.count args.damaged _;
       sizes = kept-refused is args.self.count args.units _;
     }
@@ -58,13 +51,9 @@ returns-in-Refused c =
 pub returns-in-Passed : goal.returns-in-Passed
 unfolding add_u kept_after every
 returns-in-Passed c =
-    let enum_told = c.in-Passed in
-    let adding = c.adding in
-    let sample = c.sample-sample in
-    let record-wrong = c.record_wrong-wrong in
     let args = c.args in
-    let found = numbered sample.result (sample_u args.damaged args.units) args.self.count _ _ record-wrong.ensures sample.ensures refl adding.ensures in record {
-      answer = add_done _ args.self _ refl adding.result found enum_told.given.1;
+    let found = numbered c.sample-sample.result (sample_u args.damaged args.units) args.self.count _ _ c.record_wrong-wrong.ensures c.sample-sample.ensures refl c.adding.ensures in record {
+      answer = add_done _ args.self _ refl c.adding.result found c.in-Passed.is;
       counts = refl;
       sizes = refl;
     }

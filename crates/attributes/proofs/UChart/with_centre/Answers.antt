@@ -8,13 +8,9 @@ use Rattle.attributes.proofs.UChart.with_centre.Goals as goal
 pub returns-then-not-allowed : goal.returns-then-not-allowed
 unfolding with_centre_u
 returns-then-not-allowed c =
-    let if1 = c.if-not-allowed in
-    let allowed = c.allowed in
-    sym (refused _ _ _ _ (told-not allowed.ensures if1.true))
+    sym (refused _ _ _ _ (told-not c.allowed.ensures c.if-not-allowed.true))
 
 pub returns : goal.returns
 unfolding with_centre_u
 returns c =
-    let if1 = c.if-not-allowed in
-    let allowed = c.allowed in
-    sym (passed _ _ _ _ (told-not allowed.ensures if1.false) ∙ none-applies _)
+    sym (passed _ _ _ _ (told-not c.allowed.ensures c.if-not-allowed.false) ∙ none-applies _)

@@ -13,31 +13,18 @@ returns-then-wrong c =
 
 pub returns-then-count-ge4096 : goal.returns-then-count-ge4096
 returns-then-count-ge4096 c =
-    let if2 = c.if-count-ge4096 in
-    let enum_told = c.in-Passed in
-    let if1 = c.if-wrong in
-    sym (passed _ _ _ _ if1.false ∙ passed _ _ _ _ (ap (λ (t : Tested). not (eqb (tested t) 0)) enum_told.given.1) ∙ refused _ _ _ _ (le-leb _ _ if2.true))
+    sym (passed _ _ _ _ c.if-wrong.false ∙ passed _ _ _ _ (ap (λ (t : Tested). not (eqb (tested t) 0)) c.in-Passed.is) ∙ refused _ _ _ _ (le-leb _ _ c.if-count-ge4096.true))
 
 pub returns-then-counts-count : goal.returns-then-counts-count
 returns-then-counts-count c =
-    let if3 = c.if-counts-count in
-    let if2 = c.if-count-ge4096 in
-    let enum_told = c.in-Passed in
-    let if1 = c.if-wrong in
-    sym (passed _ _ _ _ if1.false ∙ passed _ _ _ _ (ap (λ (t : Tested). not (eqb (tested t) 0)) enum_told.given.1) ∙ passed _ _ _ _ (lt-leb _ _ if2.false) ∙ refused _ _ _ _ if3.true)
+    sym (passed _ _ _ _ c.if-wrong.false ∙ passed _ _ _ _ (ap (λ (t : Tested). not (eqb (tested t) 0)) c.in-Passed.is) ∙ passed _ _ _ _ (lt-leb _ _ c.if-count-ge4096.false) ∙ refused _ _ _ _ c.if-counts-count.true)
 
 pub returns-in-Refused : goal.returns-in-Refused
 returns-in-Refused c =
-    let sample = c.in-Refused in
-    let if1 = c.if-wrong in
-    let is = sample.given.1 in
+    let is = c.in-Refused.is in
     sym (ap tested is)
-    ∙ sym (passed _ _ _ _ if1.false ∙ refused _ _ _ _ (own-refused is))
+    ∙ sym (passed _ _ _ _ c.if-wrong.false ∙ refused _ _ _ _ (own-refused is))
 
 pub returns-else-counts-count : goal.returns-else-counts-count
 returns-else-counts-count c =
-    let if3 = c.if-counts-count in
-    let if2 = c.if-count-ge4096 in
-    let enum_told = c.in-Passed in
-    let if1 = c.if-wrong in
-    sym (passed _ _ _ _ if1.false ∙ passed _ _ _ _ (ap (λ (t : Tested). not (eqb (tested t) 0)) enum_told.given.1) ∙ passed _ _ _ _ (lt-leb _ _ if2.false) ∙ passed _ _ _ _ if3.false ∙ none-applies _)
+    sym (passed _ _ _ _ c.if-wrong.false ∙ passed _ _ _ _ (ap (λ (t : Tested). not (eqb (tested t) 0)) c.in-Passed.is) ∙ passed _ _ _ _ (lt-leb _ _ c.if-count-ge4096.false) ∙ passed _ _ _ _ c.if-counts-count.false ∙ none-applies _)

@@ -9,20 +9,12 @@ returns-then-wrong c =
 
 pub returns-then-count-eq0 : goal.returns-then-count-eq0
 returns-then-count-eq0 c =
-    let if2 = c.if-count-eq0 in
-    let if1 = c.if-wrong in
-    sym (passed _ _ _ _ if1.false ∙ refused _ _ _ _ (eq-eqb _ _ if2.true))
+    sym (passed _ _ _ _ c.if-wrong.false ∙ refused _ _ _ _ (eq-eqb _ _ c.if-count-eq0.true))
 
 pub returns-then-short : goal.returns-then-short
 returns-then-short c =
-    let if3 = c.if-short in
-    let if2 = c.if-count-eq0 in
-    let if1 = c.if-wrong in
-    sym (passed _ _ _ _ if1.false ∙ passed _ _ _ _ (ne_eqb _ _ if2.false) ∙ refused _ _ _ _ if3.true)
+    sym (passed _ _ _ _ c.if-wrong.false ∙ passed _ _ _ _ (ne_eqb _ _ c.if-count-eq0.false) ∙ refused _ _ _ _ c.if-short.true)
 
 pub returns : goal.returns
 returns c =
-    let if3 = c.if-short in
-    let if2 = c.if-count-eq0 in
-    let if1 = c.if-wrong in
-    sym (passed _ _ _ _ if1.false ∙ passed _ _ _ _ (ne_eqb _ _ if2.false) ∙ passed _ _ _ _ if3.false ∙ none-applies _)
+    sym (passed _ _ _ _ c.if-wrong.false ∙ passed _ _ _ _ (ne_eqb _ _ c.if-count-eq0.false) ∙ passed _ _ _ _ c.if-short.false ∙ none-applies _)

@@ -7,18 +7,15 @@ use Rattle.attributes.proofs.plots.answer.Goals as goal
 
 pub returns-in-Done : goal.returns-in-Done
 returns-in-Done c =
-    let enum_told = c.in-Done in
     let args = c.args in
-    sym (ap (λ (w : Plotted). answer_for (plotted w) args.cl) enum_told.given.1)
+    sym (ap (λ (w : Plotted). answer_for (plotted w) args.cl) c.in-Done.is)
 
 pub returns-in-TooShort : goal.returns-in-TooShort
 returns-in-TooShort c =
-    let enum-told2 = c.in-TooShort in
     let args = c.args in
-    sym (ap (λ (w : Plotted). answer_for (plotted w) args.cl) enum-told2.given.1)
+    sym (ap (λ (w : Plotted). answer_for (plotted w) args.cl) c.in-TooShort.is)
 
 pub returns-in-Overflow : goal.returns-in-Overflow
 returns-in-Overflow c =
-    let enum-told3 = c.in-Overflow in
     let args = c.args in
-    sym (ap (λ (w : Plotted). answer_for (plotted w) args.cl) enum-told3.given.1)
+    sym (ap (λ (w : Plotted). answer_for (plotted w) args.cl) c.in-Overflow.is)

@@ -6,20 +6,14 @@ use Rattle.attributes.proofs.plots.evaluate.Goals as goal
 
 pub fill_sigmas-requires : goal.fill_sigmas-requires
 fill_sigmas-requires c =
-    let fill-variances = c.fill_variances in
     let pre = c.requires in
-    omega (arith, pre.2, fill-variances.auto.1.1.0)
+    omega (arith, pre.2, c.fill_variances.auto.out)
 
 pub returns : goal.returns
 returns c =
-    let answer = c.answer in
-    let plot = c.plot in
-    let fill-sigmas = c.fill_sigmas in
-    let fill-variances = c.fill_variances in
-    let fill-values = c.fill_values in
     let args = c.args in
     let pre = c.requires in
-    let all = plotted-so args.cl args.variance args.counts.now args.n args.values.now args.ucl.now pre.1 pre.2 fill-values.ensures
-    (in-two-steps args.variance args.n args.ucl.now pre.2 fill-variances.ensures fill-sigmas.ensures)
-    (plotted plot.result) args.lcl.now args.out.now args.z.now args.has-z.now pre.3 pre.4 pre.5 pre.6 answer.ensures plot.ensures in
+    let all = plotted-so args.cl args.variance args.counts.now args.n args.values.now args.ucl.now pre.1 pre.2 c.fill_values.ensures
+    (in-two-steps args.variance args.n args.ucl.now pre.2 c.fill_variances.ensures c.fill_sigmas.ensures)
+    (plotted c.plot.result) args.lcl.now args.out.now args.z.now args.has-z.now pre.3 pre.4 pre.5 pre.6 c.answer.ensures c.plot.ensures in
     record { answer = all.0; values = all.1.0; ucl = all.1.1.0; lcl = all.1.1.1.0; out = all.1.1.1.1.0; z = all.1.1.1.1.1.0; has_z = all.1.1.1.1.1.1 }

@@ -14,44 +14,30 @@ loop-i-init c =
 
 pub offset_bounds-out-i : goal.offset_bounds-out-i
 offset_bounds-out-i c =
-    let loop-test = c.loop-i-test in
-    let loop = c.loop-i in
-    omega (arith, tabling-room _ _ _ _ _ loop.invariant loop-test.true)
+    omega (arith, tabling-room _ _ _ _ _ c.loop-i.invariant c.loop-i-test.true)
 
 pub bounds-out-i : goal.bounds-out-i
 bounds-out-i c =
-    let loop-test = c.loop-i-test in
-    let loop = c.loop-i in
-    tabling-room _ _ _ _ _ loop.invariant loop-test.true
+    tabling-room _ _ _ _ _ c.loop-i.invariant c.loop-i-test.true
 
 pub offset_bounds-out-i-in-loop-i : goal.offset_bounds-out-i-in-loop-i
 offset_bounds-out-i-in-loop-i c =
-    let loop-test = c.loop-i-test in
-    let loop = c.loop-i in
-    omega (arith, tabling-room _ _ _ _ _ loop.invariant loop-test.true)
+    omega (arith, tabling-room _ _ _ _ _ c.loop-i.invariant c.loop-i-test.true)
 
 pub bounds-out-i-in-loop-i : goal.bounds-out-i-in-loop-i
 bounds-out-i-in-loop-i c =
-    let loop-test = c.loop-i-test in
-    let loop = c.loop-i in
-    tabling-room _ _ _ _ _ loop.invariant loop-test.true
+    tabling-room _ _ _ _ _ c.loop-i.invariant c.loop-i-test.true
 
 pub loop-i-preserved : goal.loop-i-preserved
 unfolding sigma_of
 loop-i-preserved c =
-    let or-nan = c.or_nan in
-    let root = c.root in
-    let loop-test = c.loop-i-test in
-    let loop = c.loop-i in
-    tabling-goes-on _ _ _ _ _ loop.invariant _ loop-test.true
-    (or-nan.ensures ∙ ap or_nan root.ensures.1 ∙ ap sigma_of (in_place _ _ _ _ _ loop.invariant nan))
+    tabling-goes-on _ _ _ _ _ c.loop-i.invariant _ c.loop-i-test.true
+    (c.or_nan.ensures ∙ ap or_nan c.root.ensures.is ∙ ap sigma_of (in_place _ _ _ _ _ c.loop-i.invariant nan))
 
 pub returns : goal.returns
 returns c =
-    let loop-test = c.loop-i-test in
-    let loop = c.loop-i in
     let args = c.args in
     let pre = c.requires in
     let f : ℕ → Float → Float = λ i x. sigma_of x in
-    tabling-ends _ _ _ _ _ loop.invariant loop-test.false
+    tabling-ends _ _ _ _ _ c.loop-i.invariant c.loop-i-test.false
     ∙ ap (λ (l : List Float). at_front l args.out.now) (tabulate-front f args.out.now args.n nan (pre))

@@ -13,36 +13,26 @@ loop-i-init c =
 
 pub overflow_cast-out : goal.overflow_cast-out
 overflow_cast-out c =
-    let loop-test = c.loop-i-test in
-    let loop = c.loop-i in
     let pre = c.requires in
-    omega (arith, pre.3 loop.i loop-test.true)
+    omega (arith, pre.3 c.loop-i.i c.loop-i-test.true)
 
 pub offset_bounds-out-i : goal.offset_bounds-out-i
 offset_bounds-out-i c =
-    let loop-test = c.loop-i-test in
-    let loop = c.loop-i in
-    omega (arith, tabling-room _ _ _ _ _ loop.invariant loop-test.true)
+    omega (arith, tabling-room _ _ _ _ _ c.loop-i.invariant c.loop-i-test.true)
 
 pub bounds-out-i : goal.bounds-out-i
 bounds-out-i c =
-    let loop-test = c.loop-i-test in
-    let loop = c.loop-i in
-    tabling-room _ _ _ _ _ loop.invariant loop-test.true
+    tabling-room _ _ _ _ _ c.loop-i.invariant c.loop-i-test.true
 
 pub loop-i-preserved : goal.loop-i-preserved
 loop-i-preserved c =
-    let loop-test = c.loop-i-test in
-    let loop = c.loop-i in
-    tabling-goes-on _ _ _ _ _ loop.invariant _ loop-test.true refl
+    tabling-goes-on _ _ _ _ _ c.loop-i.invariant _ c.loop-i-test.true refl
 
 pub returns : goal.returns
 returns c =
-    let loop-test = c.loop-i-test in
-    let loop = c.loop-i in
     let args = c.args in
     let pre = c.requires in
     let counts = args.counts.now in
     let f : ℕ → Float → Float = λ i x. div binary64 (whole (get_or counts i 0)) x in
-    tabling-ends _ _ _ _ _ loop.invariant loop-test.false
+    tabling-ends _ _ _ _ _ c.loop-i.invariant c.loop-i-test.false
     ∙ ap (λ (l : List Float). at_front l args.out.now) (tabulate-front f args.sizes.now args.n nan pre.1)

@@ -7,6 +7,5 @@ use Rattle.attributes.proofs.proportions.allowed.Goals as goal
 pub returns : goal.returns
 unfolding of_bits round
 returns c =
-    let is_finite = c.is_finite in
     let args = c.args in
-    ap (λ (b : Bool). b && lt plus_zero args.p && lt args.p (decimal 1 10)) is_finite.ensures
+    ap (λ (b : Bool). b && lt plus_zero args.p && lt args.p (decimal 1 10)) c.is_finite.ensures

@@ -5,6 +5,4 @@ use Rattle.attributes.proofs.proportions.excess.Goals as goal
 
 pub returns : goal.returns
 returns c =
-    let less = c.wrapping_sub_u64-less in
-    let rest = c.wrapping_sub_u64-rest in
-    bits-tell _ _ _ _ (search rules) (search rules) rest.ensures less.ensures
+    bits-tell _ _ _ _ (search rules) (search rules) c.wrapping_sub_u64-rest.ensures c.wrapping_sub_u64-less.ensures

@@ -10,31 +10,21 @@ loop-i-init c =
 
 pub overflow_cast-out : goal.overflow_cast-out
 overflow_cast-out c =
-    let loop-test = c.loop-i-test in
-    let loop = c.loop-i in
     let pre = c.requires in
-    omega (arith, pre.2 loop.i loop-test.true)
+    omega (arith, pre.2 c.loop-i.i c.loop-i-test.true)
 
 pub offset_bounds-out-i : goal.offset_bounds-out-i
 offset_bounds-out-i c =
-    let loop-test = c.loop-i-test in
-    let loop = c.loop-i in
-    omega (arith, tabling-room _ _ _ _ _ loop.invariant loop-test.true)
+    omega (arith, tabling-room _ _ _ _ _ c.loop-i.invariant c.loop-i-test.true)
 
 pub bounds-out-i : goal.bounds-out-i
 bounds-out-i c =
-    let loop-test = c.loop-i-test in
-    let loop = c.loop-i in
-    tabling-room _ _ _ _ _ loop.invariant loop-test.true
+    tabling-room _ _ _ _ _ c.loop-i.invariant c.loop-i-test.true
 
 pub loop-i-preserved : goal.loop-i-preserved
 loop-i-preserved c =
-    let loop-test = c.loop-i-test in
-    let loop = c.loop-i in
-    tabling-goes-on _ _ _ _ _ loop.invariant _ loop-test.true refl
+    tabling-goes-on _ _ _ _ _ c.loop-i.invariant _ c.loop-i-test.true refl
 
 pub returns : goal.returns
 returns c =
-    let loop-test = c.loop-i-test in
-    let loop = c.loop-i in
-    tabling-ends _ _ _ _ _ loop.invariant loop-test.false
+    tabling-ends _ _ _ _ _ c.loop-i.invariant c.loop-i-test.false

@@ -9,20 +9,12 @@ returns-then-damaged-inspected c =
 
 pub returns-then-inspected-eq0 : goal.returns-then-inspected-eq0
 returns-then-inspected-eq0 c =
-    let if2 = c.if-inspected-eq0 in
-    let if1 = c.if-damaged-inspected in
-    sym (passed _ _ _ _ if1.false ∙ refused _ _ _ _ (eq-eqb _ _ if2.true))
+    sym (passed _ _ _ _ c.if-damaged-inspected.false ∙ refused _ _ _ _ (eq-eqb _ _ c.if-inspected-eq0.true))
 
 pub returns-then-inspected-damaged : goal.returns-then-inspected-damaged
 returns-then-inspected-damaged c =
-    let if3 = c.if-inspected-damaged in
-    let if2 = c.if-inspected-eq0 in
-    let if1 = c.if-damaged-inspected in
-    sym (passed _ _ _ _ if1.false ∙ passed _ _ _ _ (ne_eqb _ _ if2.false) ∙ refused _ _ _ _ (lt-ltb _ _ if3.true))
+    sym (passed _ _ _ _ c.if-damaged-inspected.false ∙ passed _ _ _ _ (ne_eqb _ _ c.if-inspected-eq0.false) ∙ refused _ _ _ _ (lt-ltb _ _ c.if-inspected-damaged.true))
 
 pub returns : goal.returns
 returns c =
-    let if3 = c.if-inspected-damaged in
-    let if2 = c.if-inspected-eq0 in
-    let if1 = c.if-damaged-inspected in
-    sym (passed _ _ _ _ if1.false ∙ passed _ _ _ _ (ne_eqb _ _ if2.false) ∙ passed _ _ _ _ (le-ltb _ _ if3.false) ∙ none-applies _)
+    sym (passed _ _ _ _ c.if-damaged-inspected.false ∙ passed _ _ _ _ (ne_eqb _ _ c.if-inspected-eq0.false) ∙ passed _ _ _ _ (le-ltb _ _ c.if-inspected-damaged.false) ∙ none-applies _)

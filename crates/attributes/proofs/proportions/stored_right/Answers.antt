@@ -13,14 +13,9 @@ loop-i-init c =
 
 pub loop-i-preserved : goal.loop-i-preserved
 loop-i-preserved c =
-    let excess = c.excess-bits in
-    let loop-test = c.loop-i-test in
-    let loop = c.loop-i in
-    judged-bits _ _ _ loop.bits excess.result loop.invariant loop-test.true excess.ensures
+    judged-bits _ _ _ c.loop-i.bits c.excess-bits.result c.loop-i.invariant c.loop-i-test.true c.excess-bits.ensures
 
 pub returns : goal.returns
 unfolding stored_right_p
 returns c =
-    let loop-test = c.loop-i-test in
-    let loop = c.loop-i in
-    sym (leb-suc-suc loop.bits 4294967295) ∙ judged-all _ _ _ _ loop.invariant loop-test.false
+    sym (leb-suc-suc c.loop-i.bits 4294967295) ∙ judged-all _ _ _ _ c.loop-i.invariant c.loop-i-test.false

@@ -32,12 +32,8 @@ returns-in-Given c =
 pub returns-in-Computed : goal.returns-in-Computed
 unfolding centre_u
 returns-in-Computed c =
-    let nearest-u64-to-f64 = c.nearest_u64_to_f64 in
-    let sum_of = c.sum_of-units in
-    let total = c.total-damaged in
-    let enum_told = c.in-Computed in
     let args = c.args in
     ap₂ (div binary64)
-    (nearest-u64-to-f64.ensures ∙ ap whole (total.ensures ∙ ap (λ (k : ℕ). total_of (take k args.counts.now)) (sub-zero args.c.count)))
-    (sum_of.ensures ∙ ap (λ (k : ℕ). sum_of (take k args.sizes.now)) (sub-zero args.c.count))
-    ∙ computed-centre _ _ enum_told.given.1
+    (c.nearest_u64_to_f64.ensures ∙ ap whole (c.total-damaged.ensures ∙ ap (λ (k : ℕ). total_of (take k args.counts.now)) (sub-zero args.c.count)))
+    (c.sum_of-units.ensures ∙ ap (λ (k : ℕ). c.sum_of-units (take k args.sizes.now)) (sub-zero args.c.count))
+    ∙ computed-centre _ _ c.in-Computed.is

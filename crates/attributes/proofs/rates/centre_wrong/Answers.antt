@@ -11,6 +11,4 @@ returns-in-Computed c =
 pub returns-in-Given : goal.returns-in-Given
 unfolding centre_wrong
 returns-in-Given c =
-    let allowed = c.allowed in
-    let centre = c.in-Given in
-    ap not allowed.ensures ∙ sym (ap (centre_wrong rate_allowed) centre.given.1)
+    ap not c.allowed.ensures ∙ sym (ap (centre_wrong rate_allowed) c.in-Given.is)

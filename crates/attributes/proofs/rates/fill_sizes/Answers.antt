@@ -12,30 +12,22 @@ loop-i-init c =
 
 pub offset_bounds-out-i : goal.offset_bounds-out-i
 offset_bounds-out-i c =
-    let loop-test = c.loop-i-test in
-    let loop = c.loop-i in
     let pre = c.requires in
-    omega (arith, pre, filling-length _ _ _ _ loop.invariant, loop-test.true)
+    omega (arith, pre, filling-length _ _ _ _ c.loop-i.invariant, c.loop-i-test.true)
 
 pub bounds-out-i : goal.bounds-out-i
 bounds-out-i c =
-    let loop-test = c.loop-i-test in
-    let loop = c.loop-i in
     let pre = c.requires in
-    omega (arith, pre, filling-length _ _ _ _ loop.invariant, loop-test.true)
+    omega (arith, pre, filling-length _ _ _ _ c.loop-i.invariant, c.loop-i-test.true)
 
 pub loop-i-preserved : goal.loop-i-preserved
 loop-i-preserved c =
-    let loop-test = c.loop-i-test in
-    let loop = c.loop-i in
     let args = c.args in
     let pre = c.requires in
-    filling-goes-on _ _ _ _ loop.invariant nan _ (omega (arith, loop-test.true, length-take-le args.n args.sizes.now pre.0)) (sym (get_or-take args.n args.sizes.now loop.i nan loop-test.true))
+    filling-goes-on _ _ _ _ c.loop-i.invariant nan _ (omega (arith, c.loop-i-test.true, length-take-le args.n args.sizes.now pre.0)) (sym (get_or-take args.n args.sizes.now c.loop-i.i nan c.loop-i-test.true))
 
 pub returns : goal.returns
 returns c =
-    let loop-test = c.loop-i-test in
-    let loop = c.loop-i in
     let args = c.args in
     let pre = c.requires in
-    filling-ends _ _ _ _ loop.invariant (omega (arith, loop-test.false, length-take-le args.n args.sizes.now pre.0))
+    filling-ends _ _ _ _ c.loop-i.invariant (omega (arith, c.loop-i-test.false, length-take-le args.n args.sizes.now pre.0))

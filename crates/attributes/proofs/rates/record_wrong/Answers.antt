@@ -5,7 +5,5 @@ use Rattle.attributes.proofs.rates.record_wrong.Goals as goal
 
 pub returns : goal.returns
 returns c =
-    let record-wrong = c.record_wrong in
-    let centre-wrong = c.centre_wrong in
     let args = c.args in
-    record-wrong.ensures ∙ ap (λ (b : Bool). record_wrong b args.c.count args.counts args.sizes) centre-wrong.ensures
+    c.record_wrong.ensures ∙ ap (λ (b : Bool). record_wrong b args.c.count args.counts args.sizes) c.centre_wrong.ensures

@@ -10,14 +10,8 @@ returns-then-damaged-gt-MOST c =
 
 pub returns-then-not-allowed : goal.returns-then-not-allowed
 returns-then-not-allowed c =
-    let if2 = c.if-not-allowed in
-    let allowed = c.allowed in
-    let if1 = c.if-damaged-gt-MOST in
-    sym (passed _ _ _ _ (le-ltb _ _ if1.false) ∙ refused _ _ _ _ (told-not allowed.ensures if2.true))
+    sym (passed _ _ _ _ (le-ltb _ _ c.if-damaged-gt-MOST.false) ∙ refused _ _ _ _ (told-not c.allowed.ensures c.if-not-allowed.true))
 
 pub returns : goal.returns
 returns c =
-    let if2 = c.if-not-allowed in
-    let allowed = c.allowed in
-    let if1 = c.if-damaged-gt-MOST in
-    sym (passed _ _ _ _ (le-ltb _ _ if1.false) ∙ passed _ _ _ _ (told-not allowed.ensures if2.false) ∙ none-applies _)
+    sym (passed _ _ _ _ (le-ltb _ _ c.if-damaged-gt-MOST.false) ∙ passed _ _ _ _ (told-not c.allowed.ensures c.if-not-allowed.false) ∙ none-applies _)

@@ -6,6 +6,5 @@ use Rattle.attributes.proofs.rates.sample_right.Goals as goal
 
 pub returns : goal.returns
 returns c =
-    let allowed = c.allowed-none in
     let args = c.args in
-    ap (λ (b : Bool). not (too_large args.damaged || not b)) allowed.ensures ∙ right-U args.damaged args.units
+    ap (λ (b : Bool). not (too_large args.damaged || not b)) c.allowed-none.ensures ∙ right-U args.damaged args.units

@@ -12,14 +12,9 @@ loop-i-init c =
 
 pub loop-i-preserved : goal.loop-i-preserved
 loop-i-preserved c =
-    let sample-right = c.sample_right-all in
-    let loop-test = c.loop-i-test in
-    let loop = c.loop-i in
-    judged-next _ _ _ _ loop.invariant _ loop-test.true sample-right.ensures
+    judged-next _ _ _ _ c.loop-i.invariant _ c.loop-i-test.true c.sample_right-all.ensures
 
 pub returns : goal.returns
 unfolding stored_right_u
 returns c =
-    let loop-test = c.loop-i-test in
-    let loop = c.loop-i in
-    judged-all _ _ _ _ loop.invariant loop-test.false
+    judged-all _ _ _ _ c.loop-i.invariant c.loop-i-test.false

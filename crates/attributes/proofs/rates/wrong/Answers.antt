@@ -8,20 +8,13 @@ use Rattle.attributes.proofs.rates.wrong.Goals as goal
 pub returns-then-record_wrong : goal.returns-then-record_wrong
 unfolding wrong_u
 returns-then-record_wrong c =
-    let if1 = c.if-record_wrong in
-    let record-wrong = c.record_wrong in
-    or_yes _ _ (told record-wrong.ensures if1.true)
+    or_yes _ _ (told c.record_wrong.ensures c.if-record_wrong.true)
 
 pub stored_right-requires : goal.stored_right-requires
 stored_right-requires c =
-    let if1 = c.if-record_wrong in
-    let record-wrong = c.record_wrong in
-    let h = held _ _ _ _ (told record-wrong.ensures if1.false) in (h.in-counts, h.in-sizes)
+    let h = held _ _ _ _ (told c.record_wrong.ensures c.if-record_wrong.false) in (h.in-counts, h.in-sizes)
 
 pub returns : goal.returns
 unfolding wrong_u
 returns c =
-    let stored-right = c.stored_right in
-    let if1 = c.if-record_wrong in
-    let record-wrong = c.record_wrong in
-    or_no _ _ _ (told record-wrong.ensures if1.false) (ap not stored-right.ensures)
+    or_no _ _ _ (told c.record_wrong.ensures c.if-record_wrong.false) (ap not c.stored_right.ensures)

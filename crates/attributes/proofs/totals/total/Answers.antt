@@ -9,20 +9,14 @@ loop-i-init c =
 
 pub overflow_add-t : goal.overflow_add-t
 overflow_add-t c =
-    let loop-test = c.loop-i-test in
-    let loop = c.loop-i in
     let pre = c.requires in
-    omega (arith, loop.invariant.most, pre.1 loop.i loop-test.true)
+    omega (arith, c.loop-i.invariant.most, pre.1 c.loop-i.i c.loop-i-test.true)
 
 pub loop-i-preserved : goal.loop-i-preserved
 loop-i-preserved c =
-    let loop-test = c.loop-i-test in
-    let loop = c.loop-i in
     let pre = c.requires in
-    totalling-next _ _ _ loop.invariant pre.1 loop-test.true
+    totalling-next _ _ _ c.loop-i.invariant pre.1 c.loop-i-test.true
 
 pub returns : goal.returns
 returns c =
-    let loop-test = c.loop-i-test in
-    let loop = c.loop-i in
-    totalling-ends _ _ _ loop.invariant loop-test.false
+    totalling-ends _ _ _ c.loop-i.invariant c.loop-i-test.false

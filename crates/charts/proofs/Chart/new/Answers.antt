@@ -18,20 +18,12 @@ returns-then-kind_wrong c =
 pub returns-then-size_wrong : goal.returns-then-size_wrong
 unfolding new_of
 returns-then-size_wrong c =
-    let if2 = c.if-size_wrong in
-    let size-wrong = c.size_wrong in
-    let if1 = c.if-kind_wrong in
-    let kind-wrong = c.kind_wrong in
-    sym (passed _ _ _ _ (told kind-wrong.ensures if1.false) ∙ refused _ _ _ _ (told size-wrong.ensures if2.true))
+    sym (passed _ _ _ _ (told c.kind_wrong.ensures c.if-kind_wrong.false) ∙ refused _ _ _ _ (told c.size_wrong.ensures c.if-size_wrong.true))
 
 -- The set is known by its mask alone, whichever function gives it: so a wrong one fails by its number.
 pub returns : goal.returns
 unfolding new_of
 returns c =
-    let if2 = c.if-size_wrong in
-    let size-wrong = c.size_wrong in
-    let if1 = c.if-kind_wrong in
-    let kind-wrong = c.kind_wrong in
     let args = c.args in
     ap (λ (m : ℕ). (0, record { kind = args.kind; size = args.size; count = 0; set = record { mask = m }; stops = 0 })) (omega arith)
-    ∙ sym (passed _ _ _ _ (told kind-wrong.ensures if1.false) ∙ passed _ _ _ _ (told size-wrong.ensures if2.false) ∙ none-applies _)
+    ∙ sym (passed _ _ _ _ (told c.kind_wrong.ensures c.if-kind_wrong.false) ∙ passed _ _ _ _ (told c.size_wrong.ensures c.if-size_wrong.false) ∙ none-applies _)

@@ -17,17 +17,11 @@ returns-then-own_wrong c =
 pub returns-then-set-gt-ALL : goal.returns-then-set-gt-ALL
 unfolding with_set_of
 returns-then-set-gt-ALL c =
-    let if2 = c.if-set-gt-ALL in
-    let if1 = c.if-own_wrong in
-    let own-wrong = c.own_wrong in
     let args = c.args in
-    sym (passed _ _ _ _ (told own-wrong.ensures if1.false) ∙ refused _ _ _ _ (lt-ltb _ args.set.mask if2.true))
+    sym (passed _ _ _ _ (told c.own_wrong.ensures c.if-own_wrong.false) ∙ refused _ _ _ _ (lt-ltb _ args.set.mask c.if-set-gt-ALL.true))
 
 pub returns : goal.returns
 unfolding with_set_of
 returns c =
-    let if2 = c.if-set-gt-ALL in
-    let if1 = c.if-own_wrong in
-    let own-wrong = c.own_wrong in
     let args = c.args in
-    sym (passed _ _ _ _ (told own-wrong.ensures if1.false) ∙ passed _ _ _ _ (le-ltb _ args.set.mask if2.false) ∙ none-applies _)
+    sym (passed _ _ _ _ (told c.own_wrong.ensures c.if-own_wrong.false) ∙ passed _ _ _ _ (le-ltb _ args.set.mask c.if-set-gt-ALL.false) ∙ none-applies _)

@@ -15,15 +15,13 @@ loop-i-init c =
 
 pub offset_bounds-to-i : goal.offset_bounds-to-i
 offset_bounds-to-i c =
-    let loop = c.loop-i in
     let args = c.args in
-    omega (arith, filling-length args.from.now args.to.now loop.to loop.i loop.invariant)
+    omega (arith, filling-length args.from.now args.to.now c.loop-i.to c.loop-i.i c.loop-i.invariant)
 
 pub bounds-to-i : goal.bounds-to-i
 bounds-to-i c =
-    let loop = c.loop-i in
     let args = c.args in
-    omega (arith, filling-length args.from.now args.to.now loop.to loop.i loop.invariant)
+    omega (arith, filling-length args.from.now args.to.now c.loop-i.to c.loop-i.i c.loop-i.invariant)
 
 pub overflow_add-i : goal.overflow_add-i
 overflow_add-i c =
@@ -35,16 +33,12 @@ loop-i-smaller c =
 
 pub loop-i-preserved : goal.loop-i-preserved
 loop-i-preserved c =
-    let loop-test = c.loop-i-test in
-    let loop = c.loop-i in
     let args = c.args in
-    filling-goes-on args.from.now args.to.now loop.to loop.i loop.invariant nan _ loop-test.true refl
+    filling-goes-on args.from.now args.to.now c.loop-i.to c.loop-i.i c.loop-i.invariant nan _ c.loop-i-test.true refl
 
 pub returns : goal.returns
 returns c =
-    let loop-test = c.loop-i-test in
-    let loop = c.loop-i in
     let args = c.args in
-    filling-ends args.from.now args.to.now loop.to loop.i loop.invariant loop-test.false
+    filling-ends args.from.now args.to.now c.loop-i.to c.loop-i.i c.loop-i.invariant c.loop-i-test.false
     ∙ ap (λ l. args.from.now ++ l) (drop_of_length-le args.to.now {i = length args.from.now} (omega arith))
     ∙ append-nil args.from.now

@@ -10,6 +10,4 @@ returns-in-Done c =
 
 pub returns-in-Refused : goal.returns-in-Refused
 returns-in-Refused c =
-    let number = c.number in
-    let self2 = c.in-Refused in
-    ap (λ (n : ℕ). eqb n 8) number.ensures ∙ sym (ap (λ (e : Evaluated). (evaluated e).none_stands) self2.given.1)
+    ap (λ (n : ℕ). eqb n 8) c.number.ensures ∙ sym (ap (λ (e : Evaluated). (evaluated e).none_stands) c.in-Refused.is)

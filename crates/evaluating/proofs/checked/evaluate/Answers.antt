@@ -57,15 +57,13 @@ measure-w-requires c =
 
 pub returns-then-not-w : goal.returns-then-not-w
 returns-then-not-w c =
-    let measure = c.measure-w in
-    let zeroed = c.zero_all.ensures in
     let wild = sym (measured-sound (goal.at.returns-then-not-w c).After-measure-w) ∙ not-true _ c.if-not-w.true in record {
       answer = answer-refused _ _ 7 (number-7 ((in_mode (interrupted ((asked c.args.c c.args.values.now)) c.args.positions.now) c.args.width)) ((positions_wrong c.args.c c.args.positions.now)) (width_wrong c.args.width) ((no_room c.args.c (length c.args.main.now) (length c.args.dispersion.now)
           (length c.args.main_marks.now) (length c.args.dispersion_marks.now))) c.requires wild) (λ z. omega arith);
-      main = slice-7 _ _ _ measure.new.1.1.0 measure.auto.1.1.0 zeroed.0;
-      dispersion = slice-7 _ _ _ measure.new.1.1.1.0 measure.auto.1.1.1.0 zeroed.1.0;
-      main_marks = slice-7 _ _ _ c.args.main_marks.now refl zeroed.1.1.0;
-      dispersion_marks = slice-7 _ _ _ c.args.dispersion_marks.now refl zeroed.1.1.1;
+      main = slice-7 _ _ _ c.measure-w.new.main c.measure-w.auto.main c.zero_all.ensures.main;
+      dispersion = slice-7 _ _ _ c.measure-w.new.dispersion c.measure-w.auto.dispersion c.zero_all.ensures.dispersion;
+      main_marks = slice-7 _ _ _ c.args.main_marks.now refl c.zero_all.ensures.main_marks;
+      dispersion_marks = slice-7 _ _ _ c.args.dispersion_marks.now refl c.zero_all.ensures.dispersion_marks;
     }
 
 pub slice_bounds-mark_both-end : goal.slice_bounds-mark_both-end
@@ -98,19 +96,18 @@ pub returns : goal.returns
 returns c =
     let a = (in_mode (interrupted ((asked c.args.c c.args.values.now)) c.args.positions.now) c.args.width) in
     let is = c.measure-w.ensures.1 in
-    let marked = c.mark_both.ensures in
     let points = front-series ((asked c.args.c c.args.values.now)) 0 _ c.args.main.now _ c.points_in-n.ensures is.0 in
     let ranges = front-series ((asked c.args.c c.args.values.now)) 1 _ c.args.dispersion.now _ c.points_in-k.ensures is.1 in
     let stops = front-stops c.args.c c.args.positions.now in
     let main = marks-are a 0 (main-limits (goal.at.returns c).After-measure-w) (points ∙ sym (same-series ((asked c.args.c c.args.values.now)) c.args.positions.now c.args.width 0)) stops (moving-main c.args.c) in
     let dispersion =
     marks-are a 1 (dispersion-limits (goal.at.returns c).After-measure-w) (ranges ∙ sym (same-series ((asked c.args.c c.args.values.now)) c.args.positions.now c.args.width 1)) stops (moving-is c.args.c) in record {
-      answer = ap (λ (e : Evaluation). answer_done e.main e.dispersion e.marks) marked.0
+      answer = ap (λ (e : Evaluation). answer_done e.main e.dispersion e.marks) c.mark_both.ensures.answer
           ∙ done-by a (main-limits (goal.at.returns c).After-measure-w) (dispersion-limits (goal.at.returns c).After-measure-w) main dispersion
           ∙ answer-done a ((no_room c.args.c (length c.args.main.now) (length c.args.dispersion.now)
           (length c.args.main_marks.now) (length c.args.dispersion_marks.now))) (number-0 _ _ _ _ c.requires (was-sound (goal.at.returns c).Else-not-w));
       main = slice-done _ _ _ c.args.main.now is.0 refl;
       dispersion = slice-done _ _ _ c.args.dispersion.now is.1 refl;
-      main_marks = slice-done _ _ _ c.args.main_marks.now marked.1.0 main;
-      dispersion_marks = slice-done _ _ _ c.args.dispersion_marks.now marked.1.1 dispersion;
+      main_marks = slice-done _ _ _ c.args.main_marks.now c.mark_both.ensures.main_marks main;
+      dispersion_marks = slice-done _ _ _ c.args.dispersion_marks.now c.mark_both.ensures.dispersion_marks dispersion;
     }

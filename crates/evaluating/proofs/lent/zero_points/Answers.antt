@@ -14,9 +14,7 @@ overflow_add-i c =
 
 pub loop-i-smaller : goal.loop-i-smaller
 loop-i-smaller c =
-    let loop-test = c.loop-i-test in
-    let loop = c.loop-i in
-    omega (arith, one-value-length _ _ _ _ loop.invariant, one-value-goes-on _ _ _ _ loop.invariant loop-test.true)
+    omega (arith, one-value-length _ _ _ _ c.loop-i.invariant, one-value-goes-on _ _ _ _ c.loop-i.invariant c.loop-i-test.true)
 
 pub loop-i-preserved : goal.loop-i-preserved
 loop-i-preserved c =

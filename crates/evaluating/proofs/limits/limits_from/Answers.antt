@@ -6,8 +6,4 @@ use Rattle.evaluating.proofs.limits.limits_from.Goals as goal
 pub returns : goal.returns
 unfolding limits_from
 returns c =
-    let finite-limits2 = c.finite_limits-2 in
-    let finite-limits = c.finite_limits in
-    let dispersion-limits = c.dispersion_limits-dispersion in
-    let main-limits = c.main_limits-main in
-    rw (finite-limits.ensures, finite-limits2.ensures, main-limits.ensures, dispersion-limits.ensures)
+    rw (c.finite_limits.ensures, c.finite_limits-2.ensures, c.main_limits-main.ensures, c.dispersion_limits-dispersion.ensures)

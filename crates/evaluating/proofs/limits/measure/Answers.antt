@@ -30,12 +30,10 @@ limits_from-requires c =
 pub returns : goal.returns
 returns c =
     let a = asked c.args.c c.args.values.now in
-    let fill = c.fill in
-    let fill2 = c.fill-2 in
-    let main = front-series a 0 _ c.args.main.now _ c.points_in-n.ensures fill.ensures in
-    let dispersion = front-series a 1 _ c.args.dispersion.now _ c.points_in-k.ensures fill2.ensures in
+    let main = front-series a 0 _ c.args.main.now _ c.points_in-n.ensures c.fill.ensures in
+    let dispersion = front-series a 1 _ c.args.dispersion.now _ c.points_in-k.ensures c.fill-2.ensures in
     let means = ap₂ (λ (m d : Float). limits_from c.args.c m d) c.mean_of.ensures c.mean_of-2.ensures in record {
       limits = c.limits_from.ensures ∙ means ∙ from-series a main dispersion;
-      main = fill.ensures;
-      dispersion = fill2.ensures;
+      main = c.fill.ensures;
+      dispersion = c.fill-2.ensures;
     }

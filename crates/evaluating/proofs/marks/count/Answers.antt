@@ -28,14 +28,10 @@ overflow_add-n c =
 
 pub loop-i-preserved : goal.loop-i-preserved
 loop-i-preserved c =
-    let loop-test = c.loop-i-test in
-    let loop = c.loop-i in
     let args = c.args in
-    (omega arith, omega (arith, bound c), count-more args.marks.now loop.i loop.n loop-test.true loop.invariant.2)
+    (omega arith, omega (arith, bound c), count-more args.marks.now c.loop-i.i c.loop-i.n c.loop-i-test.true c.loop-i.invariant.2)
 
 pub returns : goal.returns
 returns c =
-    let loop-test = c.loop-i-test in
-    let loop = c.loop-i in
     let args = c.args in
-    (count-done args.marks.now loop.i loop.n loop-test.false loop.invariant.2, omega arith)
+    (count-done args.marks.now c.loop-i.i c.loop-i.n c.loop-i-test.false c.loop-i.invariant.2, omega arith)

@@ -7,24 +7,20 @@ use Rattle.evaluating.proofs.marks.mark.Goals as goal
 
 pub slice_bounds-count-end : goal.slice_bounds-count-end
 slice_bounds-count-end c =
-    let mark = c.mark in
     let s = c.args in
-    omega (arith, (was-done (under s.limits s.width s.stops.now s.moving) s.set.mask s.points.now (length s.marks.now) c.requires).1, mark.auto)
+    omega (arith, (was-done (under s.limits s.width s.stops.now s.moving) s.set.mask s.points.now (length s.marks.now) c.requires).1, c.mark.auto)
 
 pub count-requires : goal.count-requires
 count-requires c =
-    let mark = c.mark in
     let s = c.args in
     let none = (was-done (under s.limits s.width s.stops.now s.moving) s.set.mask s.points.now (length s.marks.now) c.requires).0 in
-    front-few (length s.points.now) mark.new.1.1.1.1.1.1.0 (was-accepted (under s.limits s.width s.stops.now s.moving) s.set.mask s.points.now none).few
+    front-few (length s.points.now) c.mark.new.marks (was-accepted (under s.limits s.width s.stops.now s.moving) s.set.mask s.points.now none).few
 
 pub returns : goal.returns
 returns c =
-    let count = c.count in
-    let mark = c.mark in
     let s = c.args in
     let pre = c.requires in
-    let marked = mark.ensures.1 in record {
-      number = (marks-counted (under s.limits s.width s.stops.now s.moving) s.set.mask s.points.now s.marks.now pre marked count.ensures.0, count.ensures.1);
+    let marked = c.mark.ensures.marks in record {
+      number = (marks-counted (under s.limits s.width s.stops.now s.moving) s.set.mask s.points.now s.marks.now pre marked c.count.ensures.0, c.count.ensures.1);
       marks = marked ∙ sym (marks-written (under s.limits s.width s.stops.now s.moving) s.set.mask s.points.now s.marks.now pre);
     }

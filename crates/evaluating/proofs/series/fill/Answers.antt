@@ -13,32 +13,20 @@ loop-i-init c =
 
 pub point-requires : goal.point-requires
 point-requires c =
-    let loop-test = c.loop-i-test in
-    let points-in = c.points_in-n in
     let pre = c.requires in
-    (pre.0, pre.1, omega (arith, points-in.ensures, loop-test.true))
+    (pre.0, pre.1, omega (arith, c.points_in-n.ensures, c.loop-i-test.true))
 
 pub offset_bounds-out-i : goal.offset_bounds-out-i
 offset_bounds-out-i c =
-    let loop-test = c.loop-i-test in
-    let loop = c.loop-i in
-    let points-in = c.points_in-n in
-    omega (arith, tabling-room _ _ _ _ _ loop.invariant (omega (arith, points-in.ensures, loop-test.true)))
+    omega (arith, tabling-room _ _ _ _ _ c.loop-i.invariant (omega (arith, c.points_in-n.ensures, c.loop-i-test.true)))
 
 pub bounds-out-i : goal.bounds-out-i
 bounds-out-i c =
-    let loop-test = c.loop-i-test in
-    let loop = c.loop-i in
-    let points-in = c.points_in-n in
-    tabling-room _ _ _ _ _ loop.invariant (omega (arith, points-in.ensures, loop-test.true))
+    tabling-room _ _ _ _ _ c.loop-i.invariant (omega (arith, c.points_in-n.ensures, c.loop-i-test.true))
 
 pub loop-i-preserved : goal.loop-i-preserved
 loop-i-preserved c =
-    let point = c.point in
-    let loop-test = c.loop-i-test in
-    let loop = c.loop-i in
-    let points-in = c.points_in-n in
-    tabling-goes-on _ _ _ _ _ loop.invariant point.result (omega (arith, points-in.ensures, loop-test.true)) point.ensures
+    tabling-goes-on _ _ _ _ _ c.loop-i.invariant c.point.result (omega (arith, c.points_in-n.ensures, c.loop-i-test.true)) c.point.ensures
 
 pub returns : goal.returns
 unfolding series_of

@@ -57,25 +57,23 @@ loop-i-smaller c =
 
 pub loop-i-preserved : goal.loop-i-preserved
 loop-i-preserved c =
-    let loop = c.loop-i in
-    let i = loop.i in
-    let k = loop.k in
+    let i = c.loop-i.i in
+    let k = c.loop-i.k in
     let in-main : i < length c.args.main.now = omega (arith, c.loop-i-test.true, c.requires.0) in
-    let value = in_place _ _ _ _ k i loop.invariant.1 nan in
+    let value = in_place _ _ _ _ k i c.loop-i.invariant.1 nan in
     let out = c.beyond.ensures ∙ ap (beyond c.args.l) value in (
       omega (arith, c.loop-i-test.true),
-      narrowing-goes-on _ _ _ _ k i loop.invariant.1 nan _ in-main (omega (arith, c.loop-i-test.true, c.requires.0)) refl _ out,
-      narrowing-goes-on _ _ _ _ k i loop.invariant.2 nan _ in-main (omega (arith, c.loop-i-test.true, c.requires.1)) refl _ out,
-      narrowing-goes-on _ _ _ _ k i loop.invariant.3 0 _ in-main (omega (arith, c.loop-i-test.true, c.requires.2)) refl _ out,
+      narrowing-goes-on _ _ _ _ k i c.loop-i.invariant.1 nan _ in-main (omega (arith, c.loop-i-test.true, c.requires.0)) refl _ out,
+      narrowing-goes-on _ _ _ _ k i c.loop-i.invariant.2 nan _ in-main (omega (arith, c.loop-i-test.true, c.requires.1)) refl _ out,
+      narrowing-goes-on _ _ _ _ k i c.loop-i.invariant.3 0 _ in-main (omega (arith, c.loop-i-test.true, c.requires.2)) refl _ out,
     )
 
 pub returns : goal.returns
 returns c =
     let n = c.args.n in
-    let loop = c.loop-i in
-    let all = narrowing-ends _ _ _ _ _ _ loop.invariant.3 n c.loop-i-test.false loop.invariant.0 in record {
-      count = narrowing-total _ _ _ _ _ _ loop.invariant.3 n c.loop-i-test.false loop.invariant.0;
-      main = narrowing-ends _ _ _ _ _ _ loop.invariant.1 n c.loop-i-test.false loop.invariant.0;
-      dispersion = narrowing-ends _ _ _ _ _ _ loop.invariant.2 n c.loop-i-test.false loop.invariant.0;
+    let all = narrowing-ends _ _ _ _ _ _ c.loop-i.invariant.3 n c.loop-i-test.false c.loop-i.invariant.0 in record {
+      count = narrowing-total _ _ _ _ _ _ c.loop-i.invariant.3 n c.loop-i-test.false c.loop-i.invariant.0;
+      main = narrowing-ends _ _ _ _ _ _ c.loop-i.invariant.1 n c.loop-i-test.false c.loop-i.invariant.0;
+      dispersion = narrowing-ends _ _ _ _ _ _ c.loop-i.invariant.2 n c.loop-i-test.false c.loop-i.invariant.0;
       places = all;
     }

@@ -14,19 +14,16 @@ use Rattle.first_week.proofs.rounds.settle.Goals as goal
 pending : (c : Else-k-left) → Pending c.args.chart (rounds_over c.args.chart c.args.main.now c.args.dispersion.now)
     c.narrow-k.new.main c.narrow-k.new.dispersion c.narrow-k.new.places c.narrow-k.result (c.loop-left.made + 1)
 pending c =
-    let narrow = c.narrow-k in
-    goes_on _ _ _ _ _ _ _ _ _ c.loop-left.invariant.4 _ _ _ _ narrow.ensures.0 narrow.ensures.1.0 narrow.ensures.1.1.0 narrow.ensures.1.1.1
-    c.if-k-left.false narrow.auto.1.1.0 narrow.auto.1.1.1.0 narrow.auto.1.1.1.1.0
+    goes_on _ _ _ _ _ _ _ _ _ c.loop-left.invariant.4 _ _ _ _ c.narrow-k.ensures.count c.narrow-k.ensures.main c.narrow-k.ensures.dispersion c.narrow-k.ensures.places
+    c.if-k-left.false c.narrow-k.auto.main c.narrow-k.auto.dispersion c.narrow-k.auto.places
 
 pub returns-then-k-left : goal.returns-then-k-left
 returns-then-k-left c =
-    let narrow = c.narrow-k in
-    let loop = c.loop-left in
-    let is = narrow.ensures in record {
-      outcome = round-ends _ _ _ _ _ _ _ _ _ loop.invariant.4 _ _ _ _ is.0 is.1.0 is.1.1.0 is.1.1.1 c.if-k-left.true;
+    record {
+      outcome = round-ends _ _ _ _ _ _ _ _ _ c.loop-left.invariant.4 _ _ _ _ c.narrow-k.ensures.count c.narrow-k.ensures.main c.narrow-k.ensures.dispersion c.narrow-k.ensures.places c.if-k-left.true;
       placed = (
-        omega (arith, c.if-k-left.true, loop.invariant.4.pending.places-room, narrow.auto.1.1.1.1.0),
-        still-below _ _ _ _ _ _ _ _ _ loop.invariant.4 _ _ _ _ is.0 is.1.0 is.1.1.0 is.1.1.1,
+        omega (arith, c.if-k-left.true, c.loop-left.invariant.4.pending.places-room, c.narrow-k.auto.places),
+        still-below _ _ _ _ _ _ _ _ _ c.loop-left.invariant.4 _ _ _ _ c.narrow-k.ensures.count c.narrow-k.ensures.main c.narrow-k.ensures.dispersion c.narrow-k.ensures.places,
       );
     }
 
@@ -74,17 +71,13 @@ overflow_add-made c =
 
 pub loop-left-smaller : goal.loop-left-smaller
 loop-left-smaller c =
-    let loop = c.loop-left in
-    let is = c.narrow-k.ensures in
-    omega (arith, c.if-k-left.false, fewer _ _ _ _ _ _ _ _ _ loop.invariant.4 _ _ _ _ is.0 is.1.0 is.1.1.0 is.1.1.1)
+    omega (arith, c.if-k-left.false, fewer _ _ _ _ _ _ _ _ _ c.loop-left.invariant.4 _ _ _ _ c.narrow-k.ensures.count c.narrow-k.ensures.main c.narrow-k.ensures.dispersion c.narrow-k.ensures.places)
 
 pub loop-left-preserved : goal.loop-left-preserved
-loop-left-preserved c =
-    let narrow = c.narrow-k in
-    let loop = c.loop-left in (
-      narrow.auto.1.1.0 ∙ loop.invariant.0,
-      narrow.auto.1.1.1.0 ∙ loop.invariant.1,
-      narrow.auto.1.1.1.1.0 ∙ loop.invariant.2,
-      loop.invariant.3,
-      next-round _ _ _ _ _ _ _ (pending (goal.at.loop-left-preserved c).Else-k-left) c.if-k-eq0.false _ _ (sym (ap limited c.in-Done.is) ∙ c.Limits-of.ensures),
-    )
+loop-left-preserved c = (
+  c.narrow-k.auto.main ∙ c.loop-left.invariant.0,
+  c.narrow-k.auto.dispersion ∙ c.loop-left.invariant.1,
+  c.narrow-k.auto.places ∙ c.loop-left.invariant.2,
+  c.loop-left.invariant.3,
+  next-round _ _ _ _ _ _ _ (pending (goal.at.loop-left-preserved c).Else-k-left) c.if-k-eq0.false _ _ (sym (ap limited c.in-Done.is) ∙ c.Limits-of.ensures),
+)

@@ -13,56 +13,35 @@ loop-i-init c =
 
 pub bounds-ucl-i : goal.bounds-ucl-i
 bounds-ucl-i c =
-    let loop-test = c.loop-i-test in
-    let loop = c.loop-i in
-    tabling-room _ _ _ _ _ loop.invariant.of-ucl loop-test.true
+    tabling-room _ _ _ _ _ c.loop-i.invariant.of-ucl c.loop-i-test.true
 
 pub bounds-ucl-i-in-loop-i : goal.bounds-ucl-i-in-loop-i
 bounds-ucl-i-in-loop-i c =
-    let loop-test = c.loop-i-test in
-    let loop = c.loop-i in
-    tabling-room _ _ _ _ _ loop.invariant.of-ucl loop-test.true
+    tabling-room _ _ _ _ _ c.loop-i.invariant.of-ucl c.loop-i-test.true
 
 pub bounds-lcl-i : goal.bounds-lcl-i
 bounds-lcl-i c =
-    let loop-test = c.loop-i-test in
-    let loop = c.loop-i in
-    tabling-room _ _ _ _ _ loop.invariant.of-lcl loop-test.true
+    tabling-room _ _ _ _ _ c.loop-i.invariant.of-lcl c.loop-i-test.true
 
 pub bounds-out-i : goal.bounds-out-i
 bounds-out-i c =
-    let loop-test = c.loop-i-test in
-    let loop = c.loop-i in
-    tabling-room _ _ _ _ _ loop.invariant.of-out loop-test.true
+    tabling-room _ _ _ _ _ c.loop-i.invariant.of-out c.loop-i-test.true
 
 pub bounds-z-i : goal.bounds-z-i
 bounds-z-i c =
-    let loop-test = c.loop-i-test in
-    let loop = c.loop-i in
-    tabling-room _ _ _ _ _ loop.invariant.of-z loop-test.true
+    tabling-room _ _ _ _ _ c.loop-i.invariant.of-z c.loop-i-test.true
 
 pub bounds-has_z-i : goal.bounds-has_z-i
 bounds-has_z-i c =
-    let loop-test = c.loop-i-test in
-    let loop = c.loop-i in
-    tabling-room _ _ _ _ _ loop.invariant.of-has-z loop-test.true
+    tabling-room _ _ _ _ _ c.loop-i.invariant.of-has-z c.loop-i-test.true
 
 pub loop-i-preserved : goal.loop-i-preserved
 loop-i-preserved c =
-    let is_finite = c.is_finite-all in
-    let standardized = c.standardized in
-    let lower = c.lower-lower in
-    let upper = c.upper-upper in
-    let loop-test = c.loop-i-test in
-    let loop = c.loop-i in
-    columns-go-on _ _ _ _ _ _ _ _ _ _ _ _ _ _ loop.invariant upper.result lower.result standardized.result is_finite.result loop-test.true
-    upper.ensures lower.ensures standardized.ensures is_finite.ensures
+    columns-go-on _ _ _ _ _ _ _ _ _ _ _ _ _ _ c.loop-i.invariant c.upper-upper.result c.lower-lower.result c.standardized.result c.is_finite-all.result c.loop-i-test.true
+    c.upper-upper.ensures c.lower-lower.ensures c.standardized.ensures c.is_finite-all.ensures
 
 pub returns : goal.returns
 returns c =
-    let loop-test = c.loop-i-test in
-    let loop = c.loop-i in
-    let is_finite = c.is_finite-centre in
     let pre = c.requires in
-    let all = columns-end _ _ _ _ _ _ _ _ _ _ _ _ _ _ loop.invariant pre loop-test.false is_finite.ensures in
+    let all = columns-end _ _ _ _ _ _ _ _ _ _ _ _ _ _ c.loop-i.invariant pre c.loop-i-test.false c.is_finite-centre.ensures in
     record { sound = all.0; ucl = all.1.0; lcl = all.1.1.0; out = all.1.1.1.0; z = all.1.1.1.1.0; has_z = all.1.1.1.1.1 }

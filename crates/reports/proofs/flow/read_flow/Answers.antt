@@ -26,23 +26,17 @@ read_values-requires c =
 pub returns-in-Halted : goal.returns-in-Halted
 unfolding flow_of
 returns-in-Halted c =
-    let args = c.args in
-    let if1 = c.if-s-gt24576 in
-    let read_head = c.read_head in record {
-      said = simp (le-ltb 24576 (length args.s.now) if1.false)
-          (read_head.ensures.0 ∙ ap (after_head args.s.now) c.in-Halted.is);
+    let args = c.args in record {
+      said = simp (le-ltb 24576 (length args.s.now) c.if-s-gt24576.false)
+          (c.read_head.ensures.said ∙ ap (after_head args.s.now) c.in-Halted.is);
       legal = tt;
     }
 
 pub returns-in-Names : goal.returns-in-Names
 unfolding flow_of
 returns-in-Names c =
-    let args = c.args in
-    let if1 = c.if-s-gt24576 in
-    let read_head = c.read_head in
-    let chart = c.in-Names in
-    let read-values = c.read_values in record {
-      said = simp (le-ltb 24576 (length args.s.now) if1.false)
-          (read_head.ensures.0 ∙ ap (after_head args.s.now) chart.given.1 ∙ read-values.ensures.0);
-      legal = read-values.ensures.1;
+    let args = c.args in record {
+      said = simp (le-ltb 24576 (length args.s.now) c.if-s-gt24576.false)
+          (c.read_head.ensures.said ∙ ap (after_head args.s.now) c.in-Names.is ∙ c.read_values.ensures.said);
+      legal = c.read_values.ensures.legal;
     }

@@ -22,17 +22,15 @@ use Rattle.reports.proofs.flow.read_head.Goals as goal
 
 kind-passed : (c : Else-kind_wrong) → Passed kind_wrong (c.args.s.now) 0 (c.in-Number.kind) (c.in-Number.second)
 kind-passed c =
-    let read_number = c.read_number in
     record {
-      stands = sym read_number.ensures ∙ c.in-Number.is;
+      stands = sym c.read_number.ensures ∙ c.in-Number.is;
       right = told c.kind_wrong.ensures c.if-kind_wrong.false;
     }
 
 made : (c : In-Done) → (size_wrong (c.in-Number.kind) (c.in-Number-read_number.size) ≡ false) × (c.in-Done.new ≡ new_chart (c.in-Number.kind) (c.in-Number-read_number.size))
 made c =
-    chart-made _ _ ((let read_number = c.read_number in
-    record {
-      stands = sym read_number.ensures ∙ c.in-Number.is;
+    chart-made _ _ ((record {
+      stands = sym c.read_number.ensures ∙ c.in-Number.is;
       right = told c.kind_wrong.ensures c.if-kind_wrong.false;
     })).right (c.in-Done.new) (sym (ap (changed no_chart) c.in-Done.is) ∙ c.new.ensures)
 
@@ -68,8 +66,7 @@ returns-in_default c =
 pub returns-then-kind_wrong : goal.returns-then-kind_wrong
 unfolding head_from
 returns-then-kind_wrong c =
-    let read_number = c.read_number in
-    let read = sym read_number.ensures ∙ c.in-Number.is in record {
+    let read = sym c.read_number.ensures ∙ c.in-Number.is in record {
       said = out-of-place (refused 12) (refused 12) _ _ _ _ _ _ read (ap not (told c.kind_wrong.ensures c.if-kind_wrong.true));
       legal = tt;
     }
@@ -86,8 +83,7 @@ pub returns-in_default-new : goal.returns-in_default-new
 unfolding head_from
 returns-in_default-new c =
     let right = kind-passed (goal.at.returns-in_default-new c).Else-kind_wrong in
-    let told = c.in_default-new.given in
-    let wrong = none_made _ _ right.right told.0.0 (sym (ap (changed no_chart) told.1) ∙ c.new.ensures) in record {
+    let wrong = none_made _ _ right.right c.in_default-new.field-0 (sym (ap (changed no_chart) c.in_default-new.is) ∙ c.new.ensures) in record {
       said = goes 12 _ _ _ _ right ∙ out-of-place (refused 12) (refused 1) _ _ _ _ _ _ (sym c.read_number-2.ensures ∙ c.in-Number-read_number.is) (ap not wrong);
       legal = tt;
     }

@@ -19,9 +19,8 @@ loop-i-init c =
 
 pub returns-in_default : goal.returns-in_default
 returns-in_default c =
-    let args = c.args in
-    let loop = c.loop-i in record {
-      said = reads-fault args.s.now args.chart (size args.chart) args.from args.values.now loop.values loop.at loop.i loop.invariant
+    let args = c.args in record {
+      said = reads-fault args.s.now args.chart (size args.chart) args.from args.values.now c.loop-i.values c.loop-i.at c.loop-i.i c.loop-i.invariant
           c.loop-i-test.true _ (sym c.read_number.ensures ∙ c.in_default.is);
       legal = tt;
     }
@@ -33,9 +32,7 @@ offset_bounds-values-i c =
 pub bounds-values-i : goal.bounds-values-i
 bounds-values-i c =
     let pre = c.requires in
-    let loop = c.loop-i in
-    let loop-test = c.loop-i-test in
-    omega (arith, loop.invariant.same, loop-test.true, pre.0)
+    omega (arith, c.loop-i.invariant.same, c.loop-i-test.true, pre.0)
 
 pub overflow_add-i : goal.overflow_add-i
 overflow_add-i c =
@@ -48,20 +45,15 @@ loop-i-smaller c =
 pub loop-i-preserved : goal.loop-i-preserved
 loop-i-preserved c =
     let pre = c.requires in
-    let loop-test = c.loop-i-test in
-    let read_number = c.read_number in
-    let value = c.in-Number in
     let args = c.args in
-    let loop = c.loop-i in
     rw c.of_bits.ensures
-    (reads-goes-on args.s.now args.chart (size args.chart) args.from args.values.now loop.values loop.at loop.i loop.invariant
-    loop-test.true _ _ (sym read_number.ensures ∙ value.given.1) pre.0)
+    (reads-goes-on args.s.now args.chart (size args.chart) args.from args.values.now c.loop-i.values c.loop-i.at c.loop-i.i c.loop-i.invariant
+    c.loop-i-test.true _ _ (sym c.read_number.ensures ∙ c.in-Number.is) pre.0)
 
 pub returns-then-at-s : goal.returns-then-at-s
 returns-then-at-s c =
-    let args = c.args in
-    let loop = c.loop-i in record {
-      said = reads_more args.s.now args.chart (size args.chart) args.from args.values.now loop.values loop.at loop.i loop.invariant
+    let args = c.args in record {
+      said = reads_more args.s.now args.chart (size args.chart) args.from args.values.now c.loop-i.values c.loop-i.at c.loop-i.i c.loop-i.invariant
           c.loop-i-test.false c.if-at-s.true;
       legal = tt;
     }
@@ -69,9 +61,8 @@ returns-then-at-s c =
 pub returns : goal.returns
 returns c =
     let pre = c.requires in
-    let args = c.args in
-    let loop = c.loop-i in record {
-      said = reads-ends args.s.now args.chart (size args.chart) args.from args.values.now loop.values loop.at loop.i loop.invariant
+    let args = c.args in record {
+      said = reads-ends args.s.now args.chart (size args.chart) args.from args.values.now c.loop-i.values c.loop-i.at c.loop-i.i c.loop-i.invariant
           c.loop-i-test.false c.if-at-s.false;
       legal = pre.1;
     }

@@ -13,18 +13,12 @@ loop-i-init c =
 
 pub loop-i-preserved : goal.loop-i-preserved
 loop-i-preserved c =
-    let loop-test = c.loop-i-test in
-    let put-byte2 = c.put_byte-word in
     let args = c.args in
-    let loop = c.loop-i in
-    coming-on (coming-on loop.invariant (words-next args.decimals args.xs.now loop.i loop-test.true) put-byte2.ensures)
+    coming-on (coming-on c.loop-i.invariant (words-next args.decimals args.xs.now c.loop-i.i c.loop-i-test.true) c.put_byte-word.ensures)
     refl c.put_number-to.ensures
 
 pub returns : goal.returns
 returns c =
-    let put_byte = c.put_byte-to in
-    let loop-test = c.loop-i-test in
     let args = c.args in
-    let loop = c.loop-i in
-    let last = coming-same loop.invariant (words_last args.decimals args.xs.now loop.i loop-test.false) in
-    put_both put_byte.ensures (coming-last last c.put_byte.ensures)
+    let last = coming-same c.loop-i.invariant (words_last args.decimals args.xs.now c.loop-i.i c.loop-i-test.false) in
+    put_both c.put_byte-to.ensures (coming-last last c.put_byte.ensures)

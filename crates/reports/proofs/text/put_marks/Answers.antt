@@ -16,16 +16,13 @@ loop-i-init c =
 pub loop-i-preserved-then-m-eq0 : goal.loop-i-preserved-then-m-eq0
 loop-i-preserved-then-m-eq0 c =
     let args = c.args in
-    let loop = c.loop-i in
-    coming-same loop.invariant
-    (ap v_lines (point-off args.series args.first args.marks.now loop.i c.loop-i-test.true c.if-m-eq0.true))
+    coming-same c.loop-i.invariant
+    (ap v_lines (point-off args.series args.first args.marks.now c.loop-i.i c.loop-i-test.true c.if-m-eq0.true))
 
 pub loop-i-preserved : goal.loop-i-preserved
 loop-i-preserved c =
-    let loop-test = c.loop-i-test in
     let args = c.args in
-    let loop = c.loop-i in
-    coming-on loop.invariant (point-lines args.series args.first args.marks.now loop.i loop-test.true) c.put_point-to.ensures
+    coming-on c.loop-i.invariant (point-lines args.series args.first args.marks.now c.loop-i.i c.loop-i-test.true) c.put_point-to.ensures
 
 pub returns : goal.returns
 returns c =

@@ -9,13 +9,10 @@ use Rattle.reports.proofs.text.put_number.Goals as goal
 
 pub returns-then-hex : goal.returns-then-hex
 returns-then-hex c =
-    let if1 = c.if-hex in
     let args = c.args in
-    put_as (word-hex args.hex args.x if1.true) c.put_digits.ensures
+    put_as (word-hex args.hex args.x c.if-hex.true) c.put_digits.ensures
 
 pub returns : goal.returns
 returns c =
-    let if1 = c.if-hex in
     let args = c.args in
-    let k = c.decimal_len in
-    put_as (ap (λ (n : ℕ). digits 10 n args.x) k.ensures ∙ word-decimal args.hex args.x if1.false) c.put_digits-2.ensures
+    put_as (ap (λ (n : ℕ). digits 10 n args.x) c.decimal_len.ensures ∙ word-decimal args.hex args.x c.if-hex.false) c.put_digits-2.ensures

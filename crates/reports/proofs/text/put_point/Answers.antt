@@ -13,20 +13,15 @@ loop-t-init c =
 
 pub loop-t-preserved-then-has_bit : goal.loop-t-preserved-then-has_bit
 loop-t-preserved-then-has_bit c =
-    let loop-test = c.loop-t-test in
-    let has-bit = c.has_bit in
-    let if1 = c.if-has_bit in
     let args = c.args in
-    let loop = c.loop-t in
-    coming-on loop.invariant
-    (lines-on args.series args.index args.m loop.t loop-test.true (sym has-bit.ensures ∙ if1.true)) c.put_line-to.ensures
+    coming-on c.loop-t.invariant
+    (lines-on args.series args.index args.m c.loop-t.t c.loop-t-test.true (sym c.has_bit.ensures ∙ c.if-has_bit.true)) c.put_line-to.ensures
 
 pub loop-t-preserved : goal.loop-t-preserved
 loop-t-preserved c =
     let args = c.args in
-    let loop = c.loop-t in
-    coming-same loop.invariant
-    (lines-off args.series args.index args.m loop.t c.loop-t-test.true (sym c.has_bit.ensures ∙ c.if-has_bit.false))
+    coming-same c.loop-t.invariant
+    (lines-off args.series args.index args.m c.loop-t.t c.loop-t-test.true (sym c.has_bit.ensures ∙ c.if-has_bit.false))
 
 pub returns : goal.returns
 returns c =

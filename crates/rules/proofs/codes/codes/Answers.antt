@@ -7,5 +7,4 @@ use Rattle.rules.proofs.codes.codes.Goals as goal
 pub returns-then-values-lt16 : goal.returns-then-values-lt16
 returns-then-values-lt16 c =
     let s = c.args in
-    let pad = c.pad in
-    codes-padded s.set s.l s.values.now _ _ _ (omega arith) pad.ensures.1 pad.ensures.0 c.families.ensures
+    codes-padded s.set s.l s.values.now _ _ _ (omega arith) c.pad.ensures.sixteen c.pad.ensures.values c.families.ensures

@@ -11,9 +11,8 @@ use Rattle.rules.proofs.codes.mark_beyond.Goals as goal
 
 pub loop-i-preserved : goal.loop-i-preserved
 loop-i-preserved c =
-    let at = c.loop-i in
-    tabling-goes-on _ _ _ _ _ at.invariant _ c.loop-i-test.true
-    (marks-single c.args.l c.args.set c.args.values.now at.i c.requires.0)
+    tabling-goes-on _ _ _ _ _ c.loop-i.invariant _ c.loop-i-test.true
+    (marks-single c.args.l c.args.set c.args.values.now c.loop-i.i c.requires.0)
 
 pub loop-i-init : goal.loop-i-init
 loop-i-init c =

@@ -14,15 +14,12 @@ use Rattle.rules.proofs.codes.mark_many.Goals as goal
 
 pub block-requires : goal.block-requires
 block-requires c =
-    let at = c.loop-at in
-    let p = c.least-p in
-    let m = c.least in
-    let some : at.at + m.result ≤ length c.args.values.now = omega (arith, m.ensures.0) in
-    let long = part-long c.args.values.now (at.at - p.result) (at.at + m.result) some in (
-      omega (arith, p.ensures.1),
-      omega (arith, long, p.ensures.0),
-      omega (arith, long, p.ensures.0, m.ensures.1),
-      omega (arith, long, p.ensures.0, part_room _ _ _ _ _ at.invariant m.result some),
+    let some : c.loop-at.at + c.least.result ≤ length c.args.values.now = omega (arith, c.least.ensures.0) in
+    let long = part-long c.args.values.now (c.loop-at.at - c.least-p.result) (c.loop-at.at + c.least.result) some in (
+      omega (arith, c.least-p.ensures.1),
+      omega (arith, long, c.least-p.ensures.0),
+      omega (arith, long, c.least-p.ensures.0, c.least.ensures.1),
+      omega (arith, long, c.least-p.ensures.0, part_room _ _ _ _ _ c.loop-at.invariant c.least.result some),
       omega arith,
       clear-zeros 512,
     )
@@ -30,18 +27,15 @@ block-requires c =
 pub loop-at-preserved : goal.loop-at-preserved
 loop-at-preserved c =
     let s = c.args in
-    let at = c.loop-at in
-    let p = c.least-p in
-    let m = c.least in
-    let some : at.at + m.result ≤ length s.values.now = omega (arith, m.ensures.0) in
-    let start = at.at - p.result in
-    let long = part-long s.values.now start (at.at + m.result) some in
-    part-fills _ _ _ _ _ at.invariant m.result some _
-    (λ j h. let here : start + (p.result + j) ≡ at.at + j = omega (arith, p.ensures.0) in
-    marks-part s.l s.set s.values.now start (at.at + m.result - start) (p.result + j) (omega (arith, p.ensures.0))
-    (λ q. goes_back at.at p.result p.ensures.2 (omega arith))
+    let some : c.loop-at.at + c.least.result ≤ length s.values.now = omega (arith, c.least.ensures.0) in
+    let start = c.loop-at.at - c.least-p.result in
+    let long = part-long s.values.now start (c.loop-at.at + c.least.result) some in
+    part-fills _ _ _ _ _ c.loop-at.invariant c.least.result some _
+    (λ j h. let here : start + (c.least-p.result + j) ≡ c.loop-at.at + j = omega (arith, c.least-p.ensures.0) in
+    marks-part s.l s.set s.values.now start (c.loop-at.at + c.least.result - start) (c.least-p.result + j) (omega (arith, c.least-p.ensures.0))
+    (λ q. goes_back c.loop-at.at c.least-p.result c.least-p.ensures.2 (omega arith))
     ∙ ap (marks_at unbroken s.l s.set s.values.now) here)
-    _ _ (omega (arith, long, p.ensures.0)) c.block.ensures
+    _ _ (omega (arith, long, c.least-p.ensures.0)) c.block.ensures
 
 pub loop-at-init : goal.loop-at-init
 loop-at-init c =

@@ -14,9 +14,8 @@ use Rattle.rules.proofs.codes.steps_of.Goals as goal
 
 pub loop-j-preserved : goal.loop-j-preserved
 loop-j-preserved c =
-    let at = c.loop-j in
-    let v = get_or c.args.v.now at.j nan in (
-      adding-one _ _ _ _ _ at.invariant.0 _ (c.step_code.ensures ∙ ap (λ (u : Float). step_code u v) at.invariant.1) (omega arith) (omega arith),
+    let v = get_or c.args.v.now c.loop-j.j nan in (
+      adding-one _ _ _ _ _ c.loop-j.invariant.0 _ (c.step_code.ensures ∙ ap (λ (u : Float). step_code u v) c.loop-j.invariant.1) (omega arith) (omega arith),
       rw add-one refl,
     )
 

@@ -17,19 +17,16 @@ returns-then-not-need c =
 
 pub zones_of-requires : goal.zones_of-requires
 zones_of-requires c =
-    let e = c.next-e in sixteen-long _ e.result e.ensures.2 e.ensures.1
+    sixteen-long _ c.next-e.result c.next-e.ensures.2 c.next-e.ensures.1
 
 pub join-requires : goal.join-requires
 join-requires c =
-    let e = c.next-e in
-    sixteen-room c.loop-i.c e.result e.ensures.2 (omega (arith, e.ensures.1, c.loop-i.invariant.room))
+    sixteen-room c.loop-i.c c.next-e.result c.next-e.ensures.2 (omega (arith, c.next-e.ensures.1, c.loop-i.invariant.room))
 
 pub loop-i-preserved : goal.loop-i-preserved
 loop-i-preserved c =
     let s = c.args in
-    let at = c.loop-i in
-    let e = c.next-e in
-    adding-next (λ u v. zone_code s.high s.low s.up s.down v) s.values.now at.i e.result e.ensures _ _ at.invariant (omega arith) _ refl _ _ c.zones_of.ensures
+    adding-next (λ u v. zone_code s.high s.low s.up s.down v) s.values.now c.loop-i.i c.next-e.result c.next-e.ensures _ _ c.loop-i.invariant (omega arith) _ refl _ _ c.zones_of.ensures
     c.join.ensures (search rules)
 
 pub returns : goal.returns

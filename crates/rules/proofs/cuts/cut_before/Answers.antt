@@ -10,5 +10,4 @@ returns-then-n-q c =
 
 pub returns : goal.returns
 returns c =
-    let k = c.least.ensures in
-    cut-lent c.args.q _ c.args.marks.now _ (omega (arith, c.if-n-q.false)) k.0 k.1 k.2 c.fit.ensures
+    cut-lent c.args.q _ c.args.marks.now _ (omega (arith, c.if-n-q.false)) c.least.ensures.0 c.least.ensures.1 c.least.ensures.2 c.fit.ensures

@@ -40,17 +40,15 @@ loop-i-smaller c =
 
 pub loop-i-preserved : goal.loop-i-preserved
 loop-i-preserved c =
-    let args = c.args in
-    let loop = c.loop-i in (
+    let args = c.args in (
       search rules,
-      loop.invariant.1
-          ∙ seen_next args.right.now args.stated.now c.requires loop.i c.loop-i-test.true loop.same,
+      c.loop-i.invariant.1
+          ∙ seen_next args.right.now args.stated.now c.requires c.loop-i.i c.loop-i-test.true c.loop-i.same,
     )
 
 pub returns : goal.returns
 returns c =
     let args = c.args in
-    let loop = c.loop-i in
-    sym (loop.invariant.1
-    ∙ ap (λ (v : Verdict). loop.same && eqb v.0 0) (none_left args.right.now args.stated.now loop.i c.loop-i-test.false)
-    ∙ and-true loop.same)
+    sym (c.loop-i.invariant.1
+    ∙ ap (λ (v : Verdict). c.loop-i.same && eqb v.0 0) (none_left args.right.now args.stated.now c.loop-i.i c.loop-i-test.false)
+    ∙ and-true c.loop-i.same)

@@ -20,12 +20,11 @@ check_entries-requires c =
 pub returns-then-points-le-FEW : goal.returns-then-points-le-FEW
 returns-then-points-le-FEW c =
     let args = c.args in
-    let points = c.in-Names.given in
-    let told = sym (c.read_head.ensures.said ∙ ap (after_head args.s.now) points.1) in
-    let long = front_long 128 points.0.0 c.if-points-le-FEW.true in
+    let told = sym (c.read_head.ensures.said ∙ ap (after_head args.s.now) c.in-Names.is) in
+    let long = front_long 128 c.in-Names.points c.if-points-le-FEW.true in
     c.check_entries.ensures
     ∙ ap (judged args.set args.marks.now)
-    (ap (λ (n : ℕ). entries args.s.now points.0.1.0 points.0.1.1.0 n points.0.1.1.1.0) long ∙ told)
+    (ap (λ (n : ℕ). entries args.s.now c.in-Names.named c.in-Names.marked n c.in-Names.next) long ∙ told)
 
 pub slice_bounds-stated-end-in-Names : goal.slice_bounds-stated-end-in-Names
 slice_bounds-stated-end-in-Names c =
@@ -42,12 +41,11 @@ returns-in-Faulty c =
 pub returns-else-points-le-FEW : goal.returns-else-points-le-FEW
 returns-else-points-le-FEW c =
     let args = c.args in
-    let points = c.in-Names.given in
-    let told = sym (c.read_head.ensures.said ∙ ap (after_head args.s.now) points.1) in
-    let long = front_long 4096 points.0.0 (subst Few points.1 c.read_head.ensures.few) in
+    let told = sym (c.read_head.ensures.said ∙ ap (after_head args.s.now) c.in-Names.is) in
+    let long = front_long 4096 c.in-Names.points (subst Few c.in-Names.is c.read_head.ensures.few) in
     c.check_entries-in-Names.ensures
     ∙ ap (judged args.set args.marks.now)
-    (ap (λ (n : ℕ). entries args.s.now points.0.1.0 points.0.1.1.0 n points.0.1.1.1.0) long ∙ told)
+    (ap (λ (n : ℕ). entries args.s.now c.in-Names.named c.in-Names.marked n c.in-Names.next) long ∙ told)
 
 pub slice_bounds-check_entries-count : goal.slice_bounds-check_entries-count
 slice_bounds-check_entries-count c =

@@ -36,8 +36,7 @@ bounds-stated-i c =
 pub returns-then-r-m : goal.returns-then-r-m
 returns-then-r-m c =
     let args = c.args in
-    let loop = c.loop-i in
-    point-wrong args.right.now args.stated.now c.requires loop.i c.loop-i-test.true c.if-r-m.true ∙ sym loop.invariant.1
+    point-wrong args.right.now args.stated.now c.requires c.loop-i.i c.loop-i-test.true c.if-r-m.true ∙ sym c.loop-i.invariant.1
 
 pub overflow_add-i : goal.overflow_add-i
 overflow_add-i c =
@@ -49,14 +48,12 @@ loop-i-smaller c =
 
 pub loop-i-preserved : goal.loop-i-preserved
 loop-i-preserved c =
-    let args = c.args in
-    let loop = c.loop-i in (
+    let args = c.args in (
       search rules,
-      loop.invariant.1 ∙ point-right args.right.now args.stated.now c.requires loop.i c.loop-i-test.true c.if-r-m.false,
+      c.loop-i.invariant.1 ∙ point-right args.right.now args.stated.now c.requires c.loop-i.i c.loop-i-test.true c.if-r-m.false,
     )
 
 pub returns : goal.returns
 returns c =
     let args = c.args in
-    let loop = c.loop-i in
-    sym (loop.invariant.1 ∙ none_left args.right.now args.stated.now loop.i c.loop-i-test.false)
+    sym (c.loop-i.invariant.1 ∙ none_left args.right.now args.stated.now c.loop-i.i c.loop-i-test.false)

@@ -16,11 +16,9 @@ returns-in_default c =
 pub returns-then-value-most : goal.returns-then-value-most
 returns-then-value-most c =
     let args = c.args in
-    let read_number = c.read_number in
-    most-taken args.most args.at _ _ _ (sym read_number.ensures ∙ c.in-Number.is) c.if-value-most.true
+    most-taken args.most args.at _ _ _ (sym c.read_number.ensures ∙ c.in-Number.is) c.if-value-most.true
 
 pub returns : goal.returns
 returns c =
     let args = c.args in
-    let read_number = c.read_number in
-    most-over args.most args.at _ _ _ (sym read_number.ensures ∙ c.in-Number.is) c.if-value-most.false
+    most-over args.most args.at _ _ _ (sym c.read_number.ensures ∙ c.in-Number.is) c.if-value-most.false

@@ -27,12 +27,10 @@ came c =
 fits : (c : In-Whole) → c.read_long-r.result.point + c.in-Whole.skip < length c.read_long-r.new.stated
 fits c =
     let args = c.args in
-    let read-entry = c.read_entry in
-    let skip = c.in-Whole in
     omega (
       arith,
-      entry-fits args.s.now args.set _ _ 0 read-entry.result read-entry.ensures skip.given.0.0 skip.given.0.1.0
-          skip.given.0.1.1.0 skip.given.1,
+      entry-fits args.s.now args.set _ _ 0 c.read_entry.result c.read_entry.ensures c.in-Whole.skip c.in-Whole.marks
+          c.in-Whole.next c.in-Whole.is,
     )
 
 pub loop-r-init : goal.loop-r-init
@@ -61,9 +59,8 @@ pub returns-in-Broken : goal.returns-in-Broken
 returns-in-Broken c =
     let args = c.args in
     let r = c.read_long-r.result in
-    let read-entry = c.read_entry in
     onward-broken args.s.now args.set args.stated.now (reach 0 args.from args.count) _ r.point r.at r.left
-    (came (goal.at.returns-in-Broken c).After-struct_known-in-loop-r-1) read-entry.result c.in-Broken.at read-entry.ensures c.in-Broken.is c.if-r-gt0.true
+    (came (goal.at.returns-in-Broken c).After-struct_known-in-loop-r-1) c.read_entry.result c.in-Broken.at c.read_entry.ensures c.in-Broken.is c.if-r-gt0.true
     ∙ told-start args.s.now args.set args.stated.now args.from args.count
 
 pub overflow_add-last : goal.overflow_add-last
@@ -94,11 +91,9 @@ pub loop-r-preserved-in-Whole : goal.loop-r-preserved-in-Whole
 loop-r-preserved-in-Whole c =
     let args = c.args in
     let r = c.read_long-r.result in
-    let read-entry = c.read_entry in
-    let skip = c.in-Whole in
     onward-turn args.s.now args.set args.stated.now (reach 0 args.from args.count) _ r.point r.at r.left
-    (came (goal.at.loop-r-preserved-in-Whole c).After-struct_known-in-loop-r-1) read-entry.result skip.given.0.0 skip.given.0.1.0 skip.given.0.1.1.0
-    read-entry.ensures skip.given.1 c.if-r-gt0.true
+    (came (goal.at.loop-r-preserved-in-Whole c).After-struct_known-in-loop-r-1) c.read_entry.result c.in-Whole.skip c.in-Whole.marks c.in-Whole.next
+    c.read_entry.ensures c.in-Whole.is c.if-r-gt0.true
 
 pub loop-r-smaller : goal.loop-r-smaller
 loop-r-smaller c =
@@ -111,15 +106,13 @@ loop-r-preserved c =
 pub returns-then-r-s : goal.returns-then-r-s
 returns-then-r-s c =
     let args = c.args in
-    let loop = c.loop-r in
-    onward-over args.s.now args.set args.stated.now (reach 0 args.from args.count) loop.stated loop.r.point loop.r.at
-    loop.r.left loop.invariant c.loop-r-test.false c.if-r-s.true
+    onward-over args.s.now args.set args.stated.now (reach 0 args.from args.count) c.loop-r.stated c.loop-r.r.point c.loop-r.r.at
+    c.loop-r.r.left c.loop-r.invariant c.loop-r-test.false c.if-r-s.true
     ∙ told-start args.s.now args.set args.stated.now args.from args.count
 
 pub returns : goal.returns
 returns c =
     let args = c.args in
-    let loop = c.loop-r in
-    onward-end args.s.now args.set args.stated.now (reach 0 args.from args.count) loop.stated loop.r.point loop.r.at
-    loop.r.left loop.invariant c.loop-r-test.false c.if-r-s.false
+    onward-end args.s.now args.set args.stated.now (reach 0 args.from args.count) c.loop-r.stated c.loop-r.r.point c.loop-r.r.at
+    c.loop-r.r.left c.loop-r.invariant c.loop-r-test.false c.if-r-s.false
     ∙ told-start args.s.now args.set args.stated.now args.from args.count

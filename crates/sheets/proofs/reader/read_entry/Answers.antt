@@ -18,11 +18,8 @@ returns-in_default c =
 pub returns-then-skip-left : goal.returns-then-skip-left
 returns-then-skip-left c =
     let args = c.args in
-    let read_number = c.read_number in
-    let skip = c.in-Number in
-    let if1 = c.if-skip-left in
-    skip-past args.s.now args.set args.left args.at skip.given.0.0 skip.given.0.1.0
-    (sym read_number.ensures ∙ skip.given.1) if1.true
+    skip-past args.s.now args.set args.left args.at c.in-Number.skip c.in-Number.second
+    (sym c.read_number.ensures ∙ c.in-Number.is) c.if-skip-left.true
 
 pub read_number-requires-2 : goal.read_number-requires-2
 read_number-requires-2 c =
@@ -31,26 +28,15 @@ read_number-requires-2 c =
 pub returns-in_default-read_number : goal.returns-in_default-read_number
 returns-in_default-read_number c =
     let args = c.args in
-    let read_number = c.read_number in
-    let skip = c.in-Number in
-    let if1 = c.if-skip-left in
-    let read-number2 = c.read_number-2 in
-    let enum-told2 = c.in_default-read_number in
-    marks-none args.s.now args.set args.left args.at skip.given.0.0 skip.given.0.1.0
-    (sym read_number.ensures ∙ skip.given.1) if1.false _ (sym read-number2.ensures ∙ enum-told2.given.1)
+    marks-none args.s.now args.set args.left args.at c.in-Number.skip c.in-Number.second
+    (sym c.read_number.ensures ∙ c.in-Number.is) c.if-skip-left.false _ (sym c.read_number-2.ensures ∙ c.in_default-read_number.is)
 
 pub returns-then-marks-eq0 : goal.returns-then-marks-eq0
 returns-then-marks-eq0 c =
     let args = c.args in
-    let read_number = c.read_number in
-    let skip = c.in-Number in
-    let if1 = c.if-skip-left in
-    let read-number2 = c.read_number-2 in
-    let marks = c.in-Number-read_number in
-    let if2 = c.if-marks-eq0 in
-    marks-zero args.s.now args.set args.left args.at skip.given.0.0 skip.given.0.1.0
-    (sym read_number.ensures ∙ skip.given.1) if1.false marks.given.0.0 marks.given.0.1.0
-    (sym read-number2.ensures ∙ marks.given.1) if2.true
+    marks-zero args.s.now args.set args.left args.at c.in-Number.skip c.in-Number.second
+    (sym c.read_number.ensures ∙ c.in-Number.is) c.if-skip-left.false c.in-Number-read_number.marks c.in-Number-read_number.next
+    (sym c.read_number-2.ensures ∙ c.in-Number-read_number.is) c.if-marks-eq0.true
 
 pub wide-requires : goal.wide-requires
 wide-requires c =
@@ -59,35 +45,17 @@ wide-requires c =
 pub returns-then-marks-wide : goal.returns-then-marks-wide
 returns-then-marks-wide c =
     let args = c.args in
-    let read_number = c.read_number in
-    let skip = c.in-Number in
-    let if1 = c.if-skip-left in
-    let read-number2 = c.read_number-2 in
-    let marks = c.in-Number-read_number in
-    let if2 = c.if-marks-eq0 in
-    let wide = c.wide in
-    let if3 = c.if-marks-wide in
-    marks-outside args.s.now args.set args.left args.at skip.given.0.0 skip.given.0.1.0
-    (sym read_number.ensures ∙ skip.given.1) if1.false marks.given.0.0 marks.given.0.1.0
-    (sym read-number2.ensures ∙ marks.given.1) if2.false (rw wide.ensures at if3.true)
+    marks-outside args.s.now args.set args.left args.at c.in-Number.skip c.in-Number.second
+    (sym c.read_number.ensures ∙ c.in-Number.is) c.if-skip-left.false c.in-Number-read_number.marks c.in-Number-read_number.next
+    (sym c.read_number-2.ensures ∙ c.in-Number-read_number.is) c.if-marks-eq0.false (rw c.wide.ensures at c.if-marks-wide.true)
 
 pub overflow_cast-result : goal.overflow_cast-result
 overflow_cast-result c =
-    let marks = c.in-Number-read_number in
-    let wide = c.wide in
-    omega (arith, c.if-marks-wide.false, and_le_r marks.given.0.0 wide.result, wide.ensures)
+    omega (arith, c.if-marks-wide.false, and_le_r c.in-Number-read_number.marks c.wide.result, c.wide.ensures)
 
 pub returns : goal.returns
 returns c =
     let args = c.args in
-    let read_number = c.read_number in
-    let skip = c.in-Number in
-    let if1 = c.if-skip-left in
-    let read-number2 = c.read_number-2 in
-    let marks = c.in-Number-read_number in
-    let if2 = c.if-marks-eq0 in
-    let wide = c.wide in
-    let if3 = c.if-marks-wide in
-    marks-inside args.s.now args.set args.left args.at skip.given.0.0 skip.given.0.1.0
-    (sym read_number.ensures ∙ skip.given.1) if1.false marks.given.0.0 marks.given.0.1.0
-    (sym read-number2.ensures ∙ marks.given.1) if2.false (rw wide.ensures at if3.false)
+    marks-inside args.s.now args.set args.left args.at c.in-Number.skip c.in-Number.second
+    (sym c.read_number.ensures ∙ c.in-Number.is) c.if-skip-left.false c.in-Number-read_number.marks c.in-Number-read_number.next
+    (sym c.read_number-2.ensures ∙ c.in-Number-read_number.is) c.if-marks-eq0.false (rw c.wide.ensures at c.if-marks-wide.false)

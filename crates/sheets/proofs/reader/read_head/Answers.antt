@@ -30,9 +30,8 @@ pub returns-in_default-read_at_most : goal.returns-in_default-read_at_most
 unfolding said_from
 returns-in_default-read_at_most c =
     let s = c.args.s.now in
-    let points = c.in-Number.given in
-    let second = points.0.1.0 in
-    let first = number_read 4096 0 _ s points.0.0 second (sym c.read_at_most.ensures ∙ points.1) in record {
+    let second = c.in-Number.second in
+    let first = number_read 4096 0 _ s c.in-Number.points second (sym c.read_at_most.ensures ∙ c.in-Number.is) in record {
       said = first ∙ number-fault 511 second _ s _ (sym c.read_at_most-2.ensures ∙ c.in_default-read_at_most.is);
       few = tt;
     }
@@ -45,34 +44,28 @@ pub returns-in_default-read_at_most-2 : goal.returns-in_default-read_at_most-2
 unfolding said_from
 returns-in_default-read_at_most-2 c =
     let s = c.args.s.now in
-    let points = c.in-Number.given in
-    let second = points.0.1.0 in
-    let set = c.in-Number-read_at_most.given in
-    let third = set.0.1.0 in
-    let first = number_read 4096 0 _ s points.0.0 second (sym c.read_at_most.ensures ∙ points.1) in
-    let next = number_read 511 second _ s set.0.0 third (sym c.read_at_most-2.ensures ∙ set.1) in record {
-      said = first ∙ next ∙ number-fault points.0.0 third _ s _ (sym c.read_at_most-3.ensures ∙ c.in_default-read_at_most-2.is);
+    let second = c.in-Number.second in
+    let third = c.in-Number-read_at_most.third in
+    let first = number_read 4096 0 _ s c.in-Number.points second (sym c.read_at_most.ensures ∙ c.in-Number.is) in
+    let next = number_read 511 second _ s c.in-Number-read_at_most.set third (sym c.read_at_most-2.ensures ∙ c.in-Number-read_at_most.is) in record {
+      said = first ∙ next ∙ number-fault c.in-Number.points third _ s _ (sym c.read_at_most-3.ensures ∙ c.in_default-read_at_most-2.is);
       few = tt;
     }
 
 pub overflow_cast-result : goal.overflow_cast-result
 overflow_cast-result c =
-    let set = c.in-Number-read_at_most.given in
-    omega (arith, number-low 511 c.in-Number.second c.args.s.now set.0.0 set.0.1.0 (sym c.read_at_most-2.ensures ∙ set.1))
+    omega (arith, number-low 511 c.in-Number.second c.args.s.now c.in-Number-read_at_most.set c.in-Number-read_at_most.third (sym c.read_at_most-2.ensures ∙ c.in-Number-read_at_most.is))
 
 pub returns : goal.returns
 unfolding said_from
 returns c =
     let s = c.args.s.now in
-    let points = c.in-Number.given in
-    let second = points.0.1.0 in
-    let set = c.in-Number-read_at_most.given in
-    let third = set.0.1.0 in
-    let marked = c.in-Number-read_at_most-2.given in
-    let read-points = sym c.read_at_most.ensures ∙ points.1 in
-    let first = number_read 4096 0 _ s points.0.0 second read-points in
-    let next = number_read 511 second _ s set.0.0 third (sym c.read_at_most-2.ensures ∙ set.1) in
-    let last = number_read points.0.0 third _ s marked.0.0 marked.0.1.0 (sym c.read_at_most-3.ensures ∙ marked.1) in record {
+    let second = c.in-Number.second in
+    let third = c.in-Number-read_at_most.third in
+    let read-points = sym c.read_at_most.ensures ∙ c.in-Number.is in
+    let first = number_read 4096 0 _ s c.in-Number.points second read-points in
+    let next = number_read 511 second _ s c.in-Number-read_at_most.set third (sym c.read_at_most-2.ensures ∙ c.in-Number-read_at_most.is) in
+    let last = number_read c.in-Number.points third _ s c.in-Number-read_at_most-2.marked c.in-Number-read_at_most-2.next (sym c.read_at_most-3.ensures ∙ c.in-Number-read_at_most-2.is) in record {
       said = first ∙ next ∙ last;
-      few = number-low 4096 0 s points.0.0 second read-points;
+      few = number-low 4096 0 s c.in-Number.points second read-points;
     }

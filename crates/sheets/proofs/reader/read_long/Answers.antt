@@ -97,8 +97,7 @@ loop-left-smaller c =
 pub loop-left-preserved : goal.loop-left-preserved
 loop-left-preserved c =
     let args = c.args in
-    let loop = c.loop-left in
-    onward-long args.s.now args.set args.stated.now args.from loop.stated loop.point loop.at loop.left loop.invariant
+    onward-long args.s.now args.set args.stated.now args.from c.loop-left.stated c.loop-left.point c.loop-left.at c.loop-left.left c.loop-left.invariant
     c.byte-skip.result c.byte-low.result c.byte-high.result c.joined-marks.result (omega (arith, near (goal.at.loop-left-preserved c).Then-at-near_end)) c.loop-left-test.true
     c.byte-skip.ensures.0 c.byte-low.ensures.0 c.byte-high.ensures.0 c.byte-low.ensures.1 c.joined-marks.ensures c.if-stated-first.false c.if-marks-set.false
 

@@ -125,8 +125,7 @@ loop-left-smaller c =
 pub loop-left-preserved : goal.loop-left-preserved
 loop-left-preserved c =
     let args = c.args in
-    let loop = c.loop-left in
-    onward-pair args.s.now args.set args.stated.now args.from loop.stated loop.point loop.at loop.left loop.invariant
+    onward-pair args.s.now args.set args.stated.now args.from c.loop-left.stated c.loop-left.point c.loop-left.at c.loop-left.left c.loop-left.invariant
     c.byte-a.result c.byte-b.result c.byte-c.result c.byte-d.result (near (goal.at.loop-left-preserved c).Then-at-near_end) c.loop-left-test.true
     c.byte-a.ensures.0 c.byte-b.ensures.0 c.byte-c.ensures.0 c.byte-d.ensures.0 c.if-stated-second.false c.if-b-set.false
 

@@ -32,9 +32,7 @@ loop-i-smaller-then-m-eq0 c =
 pub loop-i-preserved-then-m-eq0 : goal.loop-i-preserved-then-m-eq0
 loop-i-preserved-then-m-eq0 c =
     let args = c.args in
-    let loop = c.loop-i in
-    let loop-test = c.loop-i-test in
-    measures-skip args.marks.now loop.i loop.skip loop.marked loop.len loop.invariant loop-test.true c.if-m-eq0.true
+    measures-skip args.marks.now c.loop-i.i c.loop-i.skip c.loop-i.marked c.loop-i.len c.loop-i.invariant c.loop-i-test.true c.if-m-eq0.true
 
 pub size-requires : goal.size-requires
 size-requires c =
@@ -42,8 +40,7 @@ size-requires c =
 
 pub overflow_add-len : goal.overflow_add-len
 overflow_add-len c =
-    let loop = c.loop-i in
-    omega (arith, loop.invariant.short, loop.invariant.points, c.size.ensures.1)
+    omega (arith, c.loop-i.invariant.short, c.loop-i.invariant.points, c.size.ensures.1)
 
 pub size-requires-else-m-eq0 : goal.size-requires-else-m-eq0
 size-requires-else-m-eq0 c =
@@ -51,8 +48,7 @@ size-requires-else-m-eq0 c =
 
 pub overflow_add-len-else-m-eq0 : goal.overflow_add-len-else-m-eq0
 overflow_add-len-else-m-eq0 c =
-    let loop = c.loop-i in
-    omega (arith, loop.invariant.short, loop.invariant.points, c.size.ensures.1, c.size-else-m-eq0.ensures.1)
+    omega (arith, c.loop-i.invariant.short, c.loop-i.invariant.points, c.size.ensures.1, c.size-else-m-eq0.ensures.1)
 
 pub overflow_add-marked : goal.overflow_add-marked
 overflow_add-marked c =
@@ -69,16 +65,10 @@ loop-i-smaller c =
 pub loop-i-preserved : goal.loop-i-preserved
 loop-i-preserved c =
     let args = c.args in
-    let loop = c.loop-i in
-    let loop-test = c.loop-i-test in
-    let if1 = c.if-m-eq0 in
-    let size = c.size in
-    let size2 = c.size-else-m-eq0 in
-    measures-put args.marks.now loop.i loop.skip loop.marked loop.len loop.invariant loop-test.true if1.false size.result
-    size2.result size.ensures size2.ensures
+    measures-put args.marks.now c.loop-i.i c.loop-i.skip c.loop-i.marked c.loop-i.len c.loop-i.invariant c.loop-i-test.true c.if-m-eq0.false c.size.result
+    c.size-else-m-eq0.result c.size.ensures c.size-else-m-eq0.ensures
 
 pub returns : goal.returns
 returns c =
     let args = c.args in
-    let loop = c.loop-i in
-    measures-end args.marks.now loop.i loop.skip loop.marked loop.len loop.invariant c.loop-i-test.false
+    measures-end args.marks.now c.loop-i.i c.loop-i.skip c.loop-i.marked c.loop-i.len c.loop-i.invariant c.loop-i-test.false

@@ -12,21 +12,17 @@ pub returns-in-Bytes : goal.returns-in-Bytes
 returns-in-Bytes c =
     let args = c.args in
     let pre = c.requires in
-    let write-number = c.write_number in
-    let n = c.in-Bytes in
     let holds = le-leb (length (groups args.x)) (length args.out.now) (pre) in
-    let bytes : ◌≡◌ {A = ℕ × ℕ} (0, n.given.0.0) (0, length (groups args.x)) = sym (ap written n.given.1) ∙ write-number.ensures.0 ∙ simp holds in record {
+    let bytes : ◌≡◌ {A = ℕ × ℕ} (0, c.in-Bytes.n) (0, length (groups args.x)) = sym (ap written c.in-Bytes.is) ∙ c.write_number.ensures.answer ∙ simp holds in record {
       count = ap (λ (p : ℕ × ℕ). p.1) bytes;
-      room = write-number.ensures.1 ∙ simp holds;
+      room = c.write_number.ensures.room ∙ simp holds;
     }
 
 pub returns-in-Short : goal.returns-in-Short
 returns-in-Short c =
     let args = c.args in
     let pre = c.requires in
-    let write-number = c.write_number in
-    let enum_told = c.in-Short in
     let holds = le-leb (length (groups args.x)) (length args.out.now) (pre) in
-    let never : ◌≡◌ {A = ℕ × ℕ} (6, 0) (0, length (groups args.x)) = sym (ap written enum_told.given.1) ∙ write-number.ensures.0 ∙ simp holds in
+    let never : ◌≡◌ {A = ℕ × ℕ} (6, 0) (0, length (groups args.x)) = sym (ap written c.in-Short.is) ∙ c.write_number.ensures.answer ∙ simp holds in
     let all = absurd (let z : ◌≡◌ {A = ℕ} 6 0 = ap (λ (p : ℕ × ℕ). p.0) never in omega arith) in
     record { count = all.0; room = all.1 }

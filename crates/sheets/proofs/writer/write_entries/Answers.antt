@@ -35,32 +35,28 @@ loop-i-smaller-then-m-eq0 c =
 pub loop-i-preserved-then-m-eq0 : goal.loop-i-preserved-then-m-eq0
 loop-i-preserved-then-m-eq0 c =
     let args = c.args in
-    let loop = c.loop-i in
-    let loop-test = c.loop-i-test in
-    writes-skip args.marks.now args.out.now loop.out loop.i loop.skip loop.at loop.invariant loop-test.true c.if-m-eq0.true
+    writes-skip args.marks.now args.out.now c.loop-i.out c.loop-i.i c.loop-i.skip c.loop-i.at c.loop-i.invariant c.loop-i-test.true c.if-m-eq0.true
 
 pub slice_bounds-write_entry-count : goal.slice_bounds-write_entry-count
 slice_bounds-write_entry-count c =
     let args = c.args in
-    let loop = c.loop-i in
     omega (
       arith,
-      loop.invariant.filling.within,
-      loop.invariant.filling.room,
+      c.loop-i.invariant.filling.within,
+      c.loop-i.invariant.filling.room,
       filling-length (entries_of 0 args.marks.now) args.out.now
-          loop.out loop.at loop.invariant.filling,
+          c.loop-i.out c.loop-i.at c.loop-i.invariant.filling,
     )
 
 pub slice_bounds-write_entry-start : goal.slice_bounds-write_entry-start
 slice_bounds-write_entry-start c =
     let args = c.args in
-    let loop = c.loop-i in
     omega (
       arith,
-      loop.invariant.filling.within,
-      loop.invariant.filling.room,
+      c.loop-i.invariant.filling.within,
+      c.loop-i.invariant.filling.room,
       filling-length (entries_of 0 args.marks.now) args.out.now
-          loop.out loop.at loop.invariant.filling,
+          c.loop-i.out c.loop-i.at c.loop-i.invariant.filling,
     )
 
 pub slice_bounds-write_entry-end : goal.slice_bounds-write_entry-end
@@ -70,23 +66,16 @@ slice_bounds-write_entry-end c =
 pub write_entry-n-requires : goal.write_entry-n-requires
 write_entry-n-requires c =
     let args = c.args in
-    let loop = c.loop-i in
-    let loop-test = c.loop-i-test in
-    let if1 = c.if-m-eq0 in
-    writes-room args.marks.now args.out.now loop.out loop.i loop.skip loop.at loop.invariant loop-test.true if1.false
+    writes-room args.marks.now args.out.now c.loop-i.out c.loop-i.i c.loop-i.skip c.loop-i.at c.loop-i.invariant c.loop-i-test.true c.if-m-eq0.false
 
 pub overflow_add-at : goal.overflow_add-at
 overflow_add-at c =
     let args = c.args in
-    let loop = c.loop-i in
-    let loop-test = c.loop-i-test in
-    let if1 = c.if-m-eq0 in
-    let write-entry = c.write_entry-n in
     omega (
       arith,
-      (writes-on args.marks.now args.out.now loop.out loop.i loop.skip loop.at loop.invariant loop-test.true
-          if1.false write-entry.new.0 write-entry.result write-entry.ensures.1 write-entry.ensures.0).filling.within,
-      loop.invariant.filling.room,
+      (writes-on args.marks.now args.out.now c.loop-i.out c.loop-i.i c.loop-i.skip c.loop-i.at c.loop-i.invariant c.loop-i-test.true
+          c.if-m-eq0.false c.write_entry-n.new.out c.write_entry-n.result c.write_entry-n.ensures.room c.write_entry-n.ensures.count).filling.within,
+      c.loop-i.invariant.filling.room,
     )
 
 pub overflow_add-i-else-m-eq0 : goal.overflow_add-i-else-m-eq0
@@ -100,19 +89,13 @@ loop-i-smaller c =
 pub loop-i-preserved : goal.loop-i-preserved
 loop-i-preserved c =
     let args = c.args in
-    let loop = c.loop-i in
-    let loop-test = c.loop-i-test in
-    let if1 = c.if-m-eq0 in
-    let write-entry = c.write_entry-n in
-    writes-on args.marks.now args.out.now loop.out loop.i loop.skip loop.at loop.invariant loop-test.true if1.false
-    write-entry.new.0 write-entry.result write-entry.ensures.1 write-entry.ensures.0
+    writes-on args.marks.now args.out.now c.loop-i.out c.loop-i.i c.loop-i.skip c.loop-i.at c.loop-i.invariant c.loop-i-test.true c.if-m-eq0.false
+    c.write_entry-n.new.out c.write_entry-n.result c.write_entry-n.ensures.room c.write_entry-n.ensures.count
 
 pub returns : goal.returns
 returns c =
-    let args = c.args in
-    let loop = c.loop-i in
-    let loop-test = c.loop-i-test in record {
-      count = writes-count args.marks.now args.out.now loop.out loop.i loop.skip loop.at loop.invariant loop-test.false;
+    let args = c.args in record {
+      count = writes-count args.marks.now args.out.now c.loop-i.out c.loop-i.i c.loop-i.skip c.loop-i.at c.loop-i.invariant c.loop-i-test.false;
       room = writes_end
-          args.marks.now args.out.now loop.out loop.i loop.skip loop.at loop.invariant loop-test.false;
+          args.marks.now args.out.now c.loop-i.out c.loop-i.i c.loop-i.skip c.loop-i.at c.loop-i.invariant c.loop-i-test.false;
     }

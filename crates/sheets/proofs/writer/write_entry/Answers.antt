@@ -14,17 +14,15 @@ pub slice_bounds-put-count : goal.slice_bounds-put-count
 slice_bounds-put-count c =
     let args = c.args in
     let pre = c.requires in
-    let put = c.put-a in
-    second-start (groups args.skip) (groups args.marks) args.out.now put.new.0 put.result (pre) put.ensures.1
-    put.ensures.0
+    second-start (groups args.skip) (groups args.marks) args.out.now c.put-a.new.out c.put-a.result (pre) c.put-a.ensures.room
+    c.put-a.ensures.count
 
 pub slice_bounds-put-start : goal.slice_bounds-put-start
 slice_bounds-put-start c =
     let args = c.args in
     let pre = c.requires in
-    let put = c.put-a in
-    second-start (groups args.skip) (groups args.marks) args.out.now put.new.0 put.result (pre) put.ensures.1
-    put.ensures.0
+    second-start (groups args.skip) (groups args.marks) args.out.now c.put-a.new.out c.put-a.result (pre) c.put-a.ensures.room
+    c.put-a.ensures.count
 
 pub slice_bounds-put-end : goal.slice_bounds-put-end
 slice_bounds-put-end c =
@@ -34,20 +32,17 @@ pub put-b-requires : goal.put-b-requires
 put-b-requires c =
     let args = c.args in
     let pre = c.requires in
-    let put = c.put-a in
-    second-room (groups args.skip) (groups args.marks) args.out.now put.new.0 put.result (pre) put.ensures.1
-    put.ensures.0
+    second-room (groups args.skip) (groups args.marks) args.out.now c.put-a.new.out c.put-a.result (pre) c.put-a.ensures.room
+    c.put-a.ensures.count
 
 pub overflow_add-result : goal.overflow_add-result
 overflow_add-result c =
     let args = c.args in
     let pre = c.requires in
-    let put = c.put-a in
-    let put2 = c.put-b in
     omega (
       arith,
-      (second-fills (groups args.skip) (groups args.marks) args.out.now put.new.0 put.result (pre) put.ensures.1
-          put.ensures.0 put2.new.0 put2.result put2.ensures.1 put2.ensures.0).0,
+      (second-fills (groups args.skip) (groups args.marks) args.out.now c.put-a.new.out c.put-a.result (pre) c.put-a.ensures.room
+          c.put-a.ensures.count c.put-b.new.out c.put-b.result c.put-b.ensures.room c.put-b.ensures.count).0,
       pre,
     )
 
@@ -55,8 +50,6 @@ pub returns : goal.returns
 returns c =
     let args = c.args in
     let pre = c.requires in
-    let put = c.put-a in
-    let put2 = c.put-b in
-    let all = second-fills (groups args.skip) (groups args.marks) args.out.now put.new.0 put.result (pre) put.ensures.1
-    put.ensures.0 put2.new.0 put2.result put2.ensures.1 put2.ensures.0 in
+    let all = second-fills (groups args.skip) (groups args.marks) args.out.now c.put-a.new.out c.put-a.result (pre) c.put-a.ensures.room
+    c.put-a.ensures.count c.put-b.new.out c.put-b.result c.put-b.ensures.room c.put-b.ensures.count in
     record { count = all.0; room = all.1 }

@@ -15,17 +15,15 @@ pub slice_bounds-write_entry-count : goal.slice_bounds-write_entry-count
 slice_bounds-write_entry-count c =
     let args = c.args in
     let pre = c.requires in
-    let put = c.put-a in
-    second-start (groups args.points) (groups args.set ++ groups args.marked) args.out.now put.new.0 put.result (pre)
-    put.ensures.1 put.ensures.0
+    second-start (groups args.points) (groups args.set ++ groups args.marked) args.out.now c.put-a.new.out c.put-a.result (pre)
+    c.put-a.ensures.room c.put-a.ensures.count
 
 pub slice_bounds-write_entry-start : goal.slice_bounds-write_entry-start
 slice_bounds-write_entry-start c =
     let args = c.args in
     let pre = c.requires in
-    let put = c.put-a in
-    second-start (groups args.points) (groups args.set ++ groups args.marked) args.out.now put.new.0 put.result (pre)
-    put.ensures.1 put.ensures.0
+    second-start (groups args.points) (groups args.set ++ groups args.marked) args.out.now c.put-a.new.out c.put-a.result (pre)
+    c.put-a.ensures.room c.put-a.ensures.count
 
 pub slice_bounds-write_entry-end : goal.slice_bounds-write_entry-end
 slice_bounds-write_entry-end c =
@@ -35,21 +33,18 @@ pub write_entry-b-requires : goal.write_entry-b-requires
 write_entry-b-requires c =
     let args = c.args in
     let pre = c.requires in
-    let put = c.put-a in
-    second-room (groups args.points) (groups args.set ++ groups args.marked) args.out.now put.new.0 put.result (pre)
-    put.ensures.1 put.ensures.0
+    second-room (groups args.points) (groups args.set ++ groups args.marked) args.out.now c.put-a.new.out c.put-a.result (pre)
+    c.put-a.ensures.room c.put-a.ensures.count
 
 pub overflow_add-result : goal.overflow_add-result
 overflow_add-result c =
     let args = c.args in
     let pre = c.requires in
-    let put = c.put-a in
-    let write-entry = c.write_entry-b in
     omega (
       arith,
-      (second-fills (groups args.points) (groups args.set ++ groups args.marked) args.out.now put.new.0
-          put.result (pre) put.ensures.1 put.ensures.0 write-entry.new.0 write-entry.result write-entry.ensures.1
-          write-entry.ensures.0).0,
+      (second-fills (groups args.points) (groups args.set ++ groups args.marked) args.out.now c.put-a.new.out
+          c.put-a.result (pre) c.put-a.ensures.room c.put-a.ensures.count c.write_entry-b.new.out c.write_entry-b.result c.write_entry-b.ensures.room
+          c.write_entry-b.ensures.count).0,
       pre,
     )
 
@@ -57,8 +52,6 @@ pub returns : goal.returns
 returns c =
     let args = c.args in
     let pre = c.requires in
-    let put = c.put-a in
-    let write-entry = c.write_entry-b in
-    let all = second-fills (groups args.points) (groups args.set ++ groups args.marked) args.out.now put.new.0 put.result (pre)
-    put.ensures.1 put.ensures.0 write-entry.new.0 write-entry.result write-entry.ensures.1 write-entry.ensures.0 in
+    let all = second-fills (groups args.points) (groups args.set ++ groups args.marked) args.out.now c.put-a.new.out c.put-a.result (pre)
+    c.put-a.ensures.room c.put-a.ensures.count c.write_entry-b.new.out c.write_entry-b.result c.write_entry-b.ensures.room c.write_entry-b.ensures.count in
     record { count = all.0; room = all.1 }

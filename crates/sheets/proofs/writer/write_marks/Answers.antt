@@ -46,63 +46,41 @@ overflow_add-head-3 c =
 pub returns-then-out-head : goal.returns-then-out-head
 returns-then-out-head c =
     let args = c.args in
-    let measure = c.measure-measured in
-    let size = c.size in
-    let size2 = c.size-2 in
-    let size3 = c.size-3 in
-    let if1 = c.if-out-head in
-    let total = sheet-length args.set args.marks.now measure.result.marked measure.result.len measure.ensures size.result
-    size2.result size3.result size.ensures.0 size2.ensures.0 size3.ensures.0 in
-    let short = lt-leb (length (sheet_of args.set args.marks.now)) (length args.out.now) (omega (arith, total, if1.true)) in
+    let total = sheet-length args.set args.marks.now c.measure-measured.result.marked c.measure-measured.result.len c.measure-measured.ensures c.size.result
+    c.size-2.result c.size-3.result c.size.ensures.0 c.size-2.ensures.0 c.size-3.ensures.0 in
+    let short = lt-leb (length (sheet_of args.set args.marks.now)) (length args.out.now) (omega (arith, total, c.if-out-head.true)) in
     let all = simp short (refl, refl) in
     record { answer = all.0; room = all.1 }
 
 pub write_head-a-requires : goal.write_head-a-requires
 write_head-a-requires c =
     let args = c.args in
-    let measure = c.measure-measured in
-    let size = c.size in
-    let size2 = c.size-2 in
-    let size3 = c.size-3 in
-    let if1 = c.if-out-head in
-    let total = sheet-length args.set args.marks.now measure.result.marked measure.result.len measure.ensures size.result
-    size2.result size3.result size.ensures.0 size2.ensures.0 size3.ensures.0 in
-    let room : length (sheet_of args.set args.marks.now) ≤ length args.out.now = omega (arith, total, if1.false) in
-    head-fits args.set args.marks.now measure.result.marked measure.result.len measure.ensures args.out.now room
+    let total = sheet-length args.set args.marks.now c.measure-measured.result.marked c.measure-measured.result.len c.measure-measured.ensures c.size.result
+    c.size-2.result c.size-3.result c.size.ensures.0 c.size-2.ensures.0 c.size-3.ensures.0 in
+    let room : length (sheet_of args.set args.marks.now) ≤ length args.out.now = omega (arith, total, c.if-out-head.false) in
+    head-fits args.set args.marks.now c.measure-measured.result.marked c.measure-measured.result.len c.measure-measured.ensures args.out.now room
 
 pub slice_bounds-write_entries-count : goal.slice_bounds-write_entries-count
 slice_bounds-write_entries-count c =
     let args = c.args in
-    let measure = c.measure-measured in
-    let size = c.size in
-    let size2 = c.size-2 in
-    let size3 = c.size-3 in
-    let if1 = c.if-out-head in
-    let write-head = c.write_head-a in
-    let total = sheet-length args.set args.marks.now measure.result.marked measure.result.len measure.ensures size.result
-    size2.result size3.result size.ensures.0 size2.ensures.0 size3.ensures.0 in
-    let room : length (sheet_of args.set args.marks.now) ≤ length args.out.now = omega (arith, total, if1.false) in
-    second-start (head_of (length args.marks.now) args.set measure.result.marked) (entries_of 0 args.marks.now) args.out.now
-    write-head.new.0 write-head.result
-    (parts-fit args.set args.marks.now measure.result.marked measure.result.len measure.ensures args.out.now room)
-    write-head.ensures.1 write-head.ensures.0
+    let total = sheet-length args.set args.marks.now c.measure-measured.result.marked c.measure-measured.result.len c.measure-measured.ensures c.size.result
+    c.size-2.result c.size-3.result c.size.ensures.0 c.size-2.ensures.0 c.size-3.ensures.0 in
+    let room : length (sheet_of args.set args.marks.now) ≤ length args.out.now = omega (arith, total, c.if-out-head.false) in
+    second-start (head_of (length args.marks.now) args.set c.measure-measured.result.marked) (entries_of 0 args.marks.now) args.out.now
+    c.write_head-a.new.out c.write_head-a.result
+    (parts-fit args.set args.marks.now c.measure-measured.result.marked c.measure-measured.result.len c.measure-measured.ensures args.out.now room)
+    c.write_head-a.ensures.room c.write_head-a.ensures.count
 
 pub slice_bounds-write_entries-start : goal.slice_bounds-write_entries-start
 slice_bounds-write_entries-start c =
     let args = c.args in
-    let measure = c.measure-measured in
-    let size = c.size in
-    let size2 = c.size-2 in
-    let size3 = c.size-3 in
-    let if1 = c.if-out-head in
-    let write-head = c.write_head-a in
-    let total = sheet-length args.set args.marks.now measure.result.marked measure.result.len measure.ensures size.result
-    size2.result size3.result size.ensures.0 size2.ensures.0 size3.ensures.0 in
-    let room : length (sheet_of args.set args.marks.now) ≤ length args.out.now = omega (arith, total, if1.false) in
-    second-start (head_of (length args.marks.now) args.set measure.result.marked) (entries_of 0 args.marks.now) args.out.now
-    write-head.new.0 write-head.result
-    (parts-fit args.set args.marks.now measure.result.marked measure.result.len measure.ensures args.out.now room)
-    write-head.ensures.1 write-head.ensures.0
+    let total = sheet-length args.set args.marks.now c.measure-measured.result.marked c.measure-measured.result.len c.measure-measured.ensures c.size.result
+    c.size-2.result c.size-3.result c.size.ensures.0 c.size-2.ensures.0 c.size-3.ensures.0 in
+    let room : length (sheet_of args.set args.marks.now) ≤ length args.out.now = omega (arith, total, c.if-out-head.false) in
+    second-start (head_of (length args.marks.now) args.set c.measure-measured.result.marked) (entries_of 0 args.marks.now) args.out.now
+    c.write_head-a.new.out c.write_head-a.result
+    (parts-fit args.set args.marks.now c.measure-measured.result.marked c.measure-measured.result.len c.measure-measured.ensures args.out.now room)
+    c.write_head-a.ensures.room c.write_head-a.ensures.count
 
 pub slice_bounds-write_entries-end : goal.slice_bounds-write_entries-end
 slice_bounds-write_entries-end c =
@@ -112,20 +90,14 @@ pub write_entries-b-requires : goal.write_entries-b-requires
 write_entries-b-requires c =
     let args = c.args in
     let pre = c.requires in
-    let measure = c.measure-measured in
-    let size = c.size in
-    let size2 = c.size-2 in
-    let size3 = c.size-3 in
-    let if1 = c.if-out-head in
-    let write-head = c.write_head-a in
-    let total = sheet-length args.set args.marks.now measure.result.marked measure.result.len measure.ensures size.result
-    size2.result size3.result size.ensures.0 size2.ensures.0 size3.ensures.0 in
-    let room : length (sheet_of args.set args.marks.now) ≤ length args.out.now = omega (arith, total, if1.false) in (
+    let total = sheet-length args.set args.marks.now c.measure-measured.result.marked c.measure-measured.result.len c.measure-measured.ensures c.size.result
+    c.size-2.result c.size-3.result c.size.ensures.0 c.size-2.ensures.0 c.size-3.ensures.0 in
+    let room : length (sheet_of args.set args.marks.now) ≤ length args.out.now = omega (arith, total, c.if-out-head.false) in (
       pre,
-      second-room (head_of (length args.marks.now) args.set measure.result.marked) (entries_of 0 args.marks.now)
-          args.out.now write-head.new.0 write-head.result
-          (parts-fit args.set args.marks.now measure.result.marked measure.result.len measure.ensures args.out.now room)
-          write-head.ensures.1 write-head.ensures.0,
+      second-room (head_of (length args.marks.now) args.set c.measure-measured.result.marked) (entries_of 0 args.marks.now)
+          args.out.now c.write_head-a.new.out c.write_head-a.result
+          (parts-fit args.set args.marks.now c.measure-measured.result.marked c.measure-measured.result.len c.measure-measured.ensures args.out.now room)
+          c.write_head-a.ensures.room c.write_head-a.ensures.count,
     )
 
 pub overflow_add-result : goal.overflow_add-result
@@ -147,22 +119,15 @@ overflow_add-result c =
 pub returns : goal.returns
 returns c =
     let args = c.args in
-    let measure = c.measure-measured in
-    let size = c.size in
-    let size2 = c.size-2 in
-    let size3 = c.size-3 in
-    let if1 = c.if-out-head in
-    let write-head = c.write_head-a in
-    let write_entries = c.write_entries-b in
-    let total = sheet-length args.set args.marks.now measure.result.marked measure.result.len measure.ensures size.result
-    size2.result size3.result size.ensures.0 size2.ensures.0 size3.ensures.0 in
-    let room : length (sheet_of args.set args.marks.now) ≤ length args.out.now = omega (arith, total, if1.false) in
+    let total = sheet-length args.set args.marks.now c.measure-measured.result.marked c.measure-measured.result.len c.measure-measured.ensures c.size.result
+    c.size-2.result c.size-3.result c.size.ensures.0 c.size-2.ensures.0 c.size-3.ensures.0 in
+    let room : length (sheet_of args.set args.marks.now) ≤ length args.out.now = omega (arith, total, c.if-out-head.false) in
     let holds = le-leb (length (sheet_of args.set args.marks.now)) (length args.out.now) room in
-    let fills = second-fills (head_of (length args.marks.now) args.set measure.result.marked) (entries_of 0 args.marks.now)
-    args.out.now write-head.new.0 write-head.result
-    (parts-fit args.set args.marks.now measure.result.marked measure.result.len measure.ensures args.out.now room)
-    write-head.ensures.1 write-head.ensures.0 write_entries.new.0 write_entries.result write_entries.ensures.1
-    write_entries.ensures.0 in
-    let parts = sheet-parts args.set args.marks.now measure.result.marked measure.result.len measure.ensures in
+    let fills = second-fills (head_of (length args.marks.now) args.set c.measure-measured.result.marked) (entries_of 0 args.marks.now)
+    args.out.now c.write_head-a.new.out c.write_head-a.result
+    (parts-fit args.set args.marks.now c.measure-measured.result.marked c.measure-measured.result.len c.measure-measured.ensures args.out.now room)
+    c.write_head-a.ensures.room c.write_head-a.ensures.count c.write_entries-b.new.out c.write_entries-b.result c.write_entries-b.ensures.room
+    c.write_entries-b.ensures.count in
+    let parts = sheet-parts args.set args.marks.now c.measure-measured.result.marked c.measure-measured.result.len c.measure-measured.ensures in
     let all = simp holds (ap (λ (n : ℕ). (0, n)) (fills.0 ∙ ap length parts), fills.1 ∙ ap (λ (l : List ℕ). at_front l args.out.now) parts) in
     record { answer = all.0; room = all.1 }
