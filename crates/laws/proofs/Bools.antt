@@ -1,5 +1,5 @@
 -- Laws of yes and no. Assumes nothing.
-use mathlib.Core.Path.{◌≡◌, refl, sym, ◌∙◌}
+use mathlib.Core.Path.{◌≡◌, refl, sym, ap, ◌∙◌}
 use mathlib.Core.Bool.{Bool, true, false, not, ◌&&◌, ◌||◌, false≢true}
 
 pub both : (a b : Bool) → (a && b) ≡ true → (a ≡ true) × (b ≡ true)
@@ -11,8 +11,8 @@ both false b h = absurd (false≢true h)
 pub told : {answer test said : Bool} → answer ≡ test → answer ≡ said → test ≡ said
 told e h = sym e ∙ h
 
-pub told-not : {answer test said : Bool} → answer ≡ test → not answer ≡ said → not test ≡ said
-told-not e h = rw e at h
+pub told-not : {answer test said : Bool} → answer ≡ test → answer ≡ said → not test ≡ not said
+told-not e h = ap not (sym e ∙ h)
 
 pub or_left : (a b : Bool) → (a || b) ≡ false → a ≡ false
 or_left true b e = e

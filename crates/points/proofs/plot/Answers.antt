@@ -33,7 +33,7 @@ returns-then-too_short c =
 room : (c : Else-too_short)
     → let args = c.args in
     Room args.n (length args.values.now) (length args.ucl.now) (length args.lcl.now) (length args.out.now) (length args.z.now)
-    (length args.has-z.now)
+    (length args.has_z.now)
 room c =
     has_room _ _ _ _ _ _ _ (told c.too_short.ensures c.if-too_short.false)
 
@@ -70,13 +70,13 @@ returns-then-not-sound c =
     let g = plot_from args.cl n values ucl in
     let parts = plot-of-parts args.cl n values ucl in
     let fine = told c.too_short.ensures c.if-too_short.false in record {
-      answer = number-7 _ g fine (sym (c.fill_all-sound.ensures.sound ∙ ap sound parts) ∙ not-true c.fill_all-sound.result c.if-not-sound.true);
+      answer = number-7 _ g fine (sym (c.fill_all-sound.ensures.sound ∙ ap sound parts) ∙ c.if-not-sound.true);
       values = slice-7 plus_zero (take n values) values values refl c.zero_all.ensures.values;
       ucl = part-zeroed plus_zero n (uppers g) c.fill_all-sound.new.ucl args.ucl.now c.fill_all-sound.auto.ucl c.zero_all.ensures.ucl;
       lcl = part-zeroed plus_zero n (lowers g) c.fill_all-sound.new.lcl args.lcl.now c.fill_all-sound.auto.lcl c.zero_all.ensures.lcl;
       out = part-zeroed false n (outs g) c.fill_all-sound.new.out args.out.now c.fill_all-sound.auto.out c.zero_all.ensures.out;
       z = part-zeroed plus_zero n (zs g) c.fill_all-sound.new.z args.z.now c.fill_all-sound.auto.z c.zero_all.ensures.z;
-      has_z = part-zeroed false n (has_zs g) c.fill_all-sound.new.has_z args.has-z.now c.fill_all-sound.auto.has_z c.zero_all.ensures.has_z;
+      has_z = part-zeroed false n (has_zs g) c.fill_all-sound.new.has_z args.has_z.now c.fill_all-sound.auto.has_z c.zero_all.ensures.has_z;
     }
 
 pub returns : goal.returns
@@ -90,11 +90,11 @@ returns c =
     let fine = told c.too_short.ensures c.if-too_short.false in
     let room = has_room _ _ _ _ _ _ _ fine in
     let long = length-take-le n values room.in-values in record {
-      answer = number-0 _ g fine (sym (c.fill_all-sound.ensures.sound ∙ ap sound parts) ∙ not-false c.fill_all-sound.result c.if-not-sound.false);
+      answer = number-0 _ g fine (sym (c.fill_all-sound.ensures.sound ∙ ap sound parts) ∙ c.if-not-sound.false);
       values = front_kept plus_zero n values room.in-values;
       ucl = part-written plus_zero n (uppers g) c.fill_all-sound.new.ucl args.ucl.now (c.fill_all-sound.ensures.ucl ∙ ap uppers parts) (column-length (λ p. p.ucl) g ∙ long);
       lcl = part-written plus_zero n (lowers g) c.fill_all-sound.new.lcl args.lcl.now (c.fill_all-sound.ensures.lcl ∙ ap lowers parts) (column-length (λ p. p.lcl) g ∙ long);
       out = part-written false n (outs g) c.fill_all-sound.new.out args.out.now (c.fill_all-sound.ensures.out ∙ ap outs parts) (column-length (λ p. p.out_of_control) g ∙ long);
       z = part-written plus_zero n (zs g) c.fill_all-sound.new.z args.z.now (c.fill_all-sound.ensures.z ∙ ap zs parts) (column-length (λ p. p.z) g ∙ long);
-      has_z = part-written false n (has_zs g) c.fill_all-sound.new.has_z args.has-z.now (c.fill_all-sound.ensures.has_z ∙ ap has_zs parts) (column-length (λ p. p.has_z) g ∙ long);
+      has_z = part-written false n (has_zs g) c.fill_all-sound.new.has_z args.has_z.now (c.fill_all-sound.ensures.has_z ∙ ap has_zs parts) (column-length (λ p. p.has_z) g ∙ long);
     }

@@ -10,6 +10,6 @@ pub returns : goal.returns
 returns c =
     let a = c.args in
     only_then
-    (all_held _ a.ours a.left a.main.now a.dispersion.now a.main-marks.now a.dispersion-marks.now
-    (sym c.refused_alike.ensures ∙ not-false _ c.if-not-refused_alike.false) (sym c.rest_is.ensures ∙ not-false _ c.if-not-rest_is.false))
+    (all_held _ a.ours a.left a.main.now a.dispersion.now a.main_marks.now a.dispersion_marks.now
+    (sym c.refused_alike.ensures ∙ c.if-not-refused_alike.false) (sym c.rest_is.ensures ∙ c.if-not-rest_is.false))
     c.hold_answer.result c.hold_answer.ensures

@@ -23,5 +23,5 @@ all_held {end = end} stored marks w taken rest e =
 pub returns : goal.returns
 returns c =
     only_then
-    (all_held _ _ c.written_by-end.ensures.value (not-false _ c.if-not-stopped-number.false) (sym c.marks_are.ensures ∙ not-false _ c.if-not-marks_are.false))
+    (all_held _ _ c.written_by-end.ensures.value c.if-not-stopped-number.false (sym c.marks_are.ensures ∙ c.if-not-marks_are.false))
     c.hold_bytes.result c.hold_bytes.ensures

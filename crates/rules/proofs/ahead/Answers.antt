@@ -36,7 +36,7 @@ moded c =
 
 sound : (c : Else-not-finite_limits) → finite_limits c.args.limits ≡ true
 sound c =
-    sym c.finite_limits.ensures ∙ not-false _ c.if-not-finite_limits.false
+    sym c.finite_limits.ensures ∙ c.if-not-finite_limits.false
 
 pub returns-then-values-gt-MOST : goal.returns-then-values-gt-MOST
 unfolding ahead first_of
@@ -66,19 +66,19 @@ pub returns-then-not-finite_limits : goal.returns-then-not-finite_limits
 unfolding ahead first_of
 returns-then-not-finite_limits c =
     let args = c.args in
-    let limits : finite_limits args.limits ≡ false = sym c.finite_limits.ensures ∙ not-true _ c.if-not-finite_limits.true in
+    let limits : finite_limits args.limits ≡ false = sym c.finite_limits.ensures ∙ c.if-not-finite_limits.true in
     simp (few (goal.at.returns-then-not-finite_limits c).Else-values-gt-MOST, stopped (goal.at.returns-then-not-finite_limits c).Else-wrong, small (goal.at.returns-then-not-finite_limits c).Else-mask-gt-ALL, moded (goal.at.returns-then-not-finite_limits c).Else-width-gt-OWN_WIDTHS, limits)
 
 pub returns-then-not-all_finite : goal.returns-then-not-all_finite
 unfolding ahead first_of
 returns-then-not-all_finite c =
     let args = c.args in
-    let values : all_finite args.values.now ≡ false = sym c.all_finite.ensures ∙ not-true _ c.if-not-all_finite.true in
+    let values : all_finite args.values.now ≡ false = sym c.all_finite.ensures ∙ c.if-not-all_finite.true in
     simp (few (goal.at.returns-then-not-all_finite c).Else-values-gt-MOST, stopped (goal.at.returns-then-not-all_finite c).Else-wrong, small (goal.at.returns-then-not-all_finite c).Else-mask-gt-ALL, moded (goal.at.returns-then-not-all_finite c).Else-width-gt-OWN_WIDTHS, sound (goal.at.returns-then-not-all_finite c).Else-not-finite_limits, values)
 
 pub returns : goal.returns
 unfolding ahead first_of
 returns c =
     let args = c.args in
-    let values : all_finite args.values.now ≡ true = sym c.all_finite.ensures ∙ not-false _ c.if-not-all_finite.false in
+    let values : all_finite args.values.now ≡ true = sym c.all_finite.ensures ∙ c.if-not-all_finite.false in
     simp (few (goal.at.returns c).Else-values-gt-MOST, stopped (goal.at.returns c).Else-wrong, small (goal.at.returns c).Else-mask-gt-ALL, moded (goal.at.returns c).Else-width-gt-OWN_WIDTHS, sound (goal.at.returns c).Else-not-finite_limits, values)

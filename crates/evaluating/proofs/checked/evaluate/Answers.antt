@@ -49,7 +49,7 @@ dispersion-limits c =
 
 was-sound : (c : Else-not-w) → sound ((in_mode (interrupted ((asked c.args.c c.args.values.now)) c.args.positions.now) c.args.width)) ≡ true
 was-sound c =
-    sym ((ap (λ (w : Measured). w.sound) ((c.measure-w.ensures.limits ∙ sym (same-measures ((asked c.args.c c.args.values.now)) c.args.positions.now c.args.width))))) ∙ not-false _ c.if-not-w.false
+    sym ((ap (λ (w : Measured). w.sound) ((c.measure-w.ensures.limits ∙ sym (same-measures ((asked c.args.c c.args.values.now)) c.args.positions.now c.args.width))))) ∙ c.if-not-w.false
 
 pub measure-w-requires : goal.measure-w-requires
 measure-w-requires c =
@@ -57,7 +57,7 @@ measure-w-requires c =
 
 pub returns-then-not-w : goal.returns-then-not-w
 returns-then-not-w c =
-    let wild = sym (measured-sound (goal.at.returns-then-not-w c).After-measure-w) ∙ not-true _ c.if-not-w.true in record {
+    let wild = sym (measured-sound (goal.at.returns-then-not-w c).After-measure-w) ∙ c.if-not-w.true in record {
       answer = answer-refused _ _ 7 (number-7 ((in_mode (interrupted ((asked c.args.c c.args.values.now)) c.args.positions.now) c.args.width)) ((positions_wrong c.args.c c.args.positions.now)) (width_wrong c.args.width) ((no_room c.args.c (length c.args.main.now) (length c.args.dispersion.now)
           (length c.args.main_marks.now) (length c.args.dispersion_marks.now))) c.requires wild) (λ z. omega arith);
       main = slice-7 _ _ _ c.measure-w.new.main c.measure-w.auto.main c.zero_all.ensures.main;

@@ -26,15 +26,15 @@ returns-then-width-gt-OWN_WIDTHS c =
 pub returns-then-not-sound : goal.returns-then-not-sound
 returns-then-not-sound c =
     let a = c.args in
-    let unsound : finite_limits a.limits ≡ false = sym c.finite_limits-sound.ensures ∙ not-true _ c.if-not-sound.true in
+    let unsound : finite_limits a.limits ≡ false = sym c.finite_limits-sound.ensures ∙ c.if-not-sound.true in
     c.refuse-then-not-sound.ensures
     ∙ sym (limits-refused a.limits a.width a.set.mask a.self a.value c.if-set-gt-ALL.false c.if-width-gt-OWN_WIDTHS.false unsound)
 
 pub returns-then-not-is_finite : goal.returns-then-not-is_finite
 returns-then-not-is_finite c =
     let a = c.args in
-    let sound : finite_limits a.limits ≡ true = sym c.finite_limits-sound.ensures ∙ not-false _ c.if-not-sound.false in
-    let unsound : finite a.value ≡ false = sym c.is_finite.ensures ∙ not-true _ c.if-not-is_finite.true in
+    let sound : finite_limits a.limits ≡ true = sym c.finite_limits-sound.ensures ∙ c.if-not-sound.false in
+    let unsound : finite a.value ≡ false = sym c.is_finite.ensures ∙ c.if-not-is_finite.true in
     c.refuse-then-not-is_finite.ensures
     ∙ sym (value-refused a.limits a.width a.set.mask a.self a.value c.if-set-gt-ALL.false c.if-width-gt-OWN_WIDTHS.false sound unsound)
 
@@ -46,8 +46,8 @@ marks-marks-requires c =
 pub returns : goal.returns
 returns c =
     let a = c.args in
-    let sound : finite_limits a.limits ≡ true = sym c.finite_limits-sound.ensures ∙ not-false _ c.if-not-sound.false in
-    let is : finite a.value ≡ true = sym c.is_finite.ensures ∙ not-false _ c.if-not-is_finite.false in
+    let sound : finite_limits a.limits ≡ true = sym c.finite_limits-sound.ensures ∙ c.if-not-sound.false in
+    let is : finite a.value ≡ true = sym c.is_finite.ensures ∙ c.if-not-is_finite.false in
     ap (λ (m : ℕ). (0, m, c.after-lane.result)) c.marks-marks.ensures
     ∙ ap (marked a.set.mask) (c.after-lane.ensures ∙ ap (λ (l : Lines). after l a.self a.value) c.lines_of.ensures)
     ∙ sym (value_taken a.limits a.width a.set.mask a.self a.value c.if-set-gt-ALL.false c.if-width-gt-OWN_WIDTHS.false sound is)

@@ -13,7 +13,7 @@ use Rattle.rules.proofs.codes.zones.Goals as goal
 
 pub returns-then-not-need : goal.returns-then-not-need
 returns-then-not-need c =
-    let off : c.args.need ≡ false = not-true _ c.if-not-need.true in rw off (added_none _ _)
+    let off : c.args.need ≡ false = c.if-not-need.true in rw off (added_none _ _)
 
 pub zones_of-requires : goal.zones_of-requires
 zones_of-requires c =
@@ -31,7 +31,7 @@ loop-i-preserved c =
 
 pub returns : goal.returns
 returns c =
-    let on : c.args.need ≡ true = not-false _ c.if-not-need.false in
+    let on : c.args.need ≡ true = c.if-not-need.false in
     rw on (adding-ends _ _ _ _ _ c.loop-i.invariant (omega arith))
 
 pub loop-i-init : goal.loop-i-init
