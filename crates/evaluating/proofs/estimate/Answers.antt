@@ -6,26 +6,26 @@ use Rattle.charts.proofs.Held.{own_of}
 use Rattle.evaluating.specs.Asked.{Asked, asked}
 use Rattle.evaluating.specs.Sigma.{sigma_number, unless_refused, sigma_from, sigma_hat_of, sigma_hat_df_of, estimate_of}
 use Rattle.evaluating.proofs.Figures.{figure-refused, figure-done, was-refused, was-done, value-done, record-right}
-use Rattle.evaluating.proofs.estimate.Goals.{In-Done-2}
+use Rattle.evaluating.proofs.estimate.Goals.{In-Done}
 use Rattle.evaluating.proofs.estimate.Goals as goal
 
 -- ---- where there is a centre line
 
-accepted : (c : In-Done-2) → sigma_number ((asked c.args.chart c.args.values.now)) ≡ 0
+accepted : (c : In-Done) → sigma_number ((asked c.args.chart c.args.values.now)) ≡ 0
 accepted c =
     was-done _ _ c.centre.ensures c.in-Done.is
 
-right : (c : In-Done-2) → own_wrong c.args.chart ≡ false
+right : (c : In-Done) → own_wrong c.args.chart ≡ false
 right c =
     own_of c.args.chart (length c.args.values.now) (record-right ((asked c.args.chart c.args.values.now)) (accepted c))
 
 pub sigma_from-requires : goal.sigma_from-requires
 sigma_from-requires c =
-    right (goal.at.sigma_from-requires c).In-Done-2
+    right c
 
 pub df_of-requires : goal.df_of-requires
 df_of-requires c =
-    right (goal.at.df_of-requires c).In-Done-2
+    right (goal.at.df_of-requires c).In-Done
 
 pub returns-in-Refused : goal.returns-in-Refused
 unfolding estimate_of sigma_hat_of sigma_hat_df_of unless_refused
@@ -38,6 +38,6 @@ unfolding estimate_of sigma_hat_of sigma_hat_df_of unless_refused
 returns-in-Done c =
     let chart = c.args.chart in
     let is = value-done _ _ c.centre.ensures c.in-Done.is in
-    let none = accepted (goal.at.returns-in-Done c).In-Done-2 in
+    let none = accepted (goal.at.returns-in-Done c).In-Done in
     ap₂ (λ (p q : ℕ × Float). (p.0, p.1, q.1)) (figure-done _ none (c.sigma_from.ensures ∙ ap (sigma_from chart) is))
     (figure-done _ none c.df_of.ensures)

@@ -40,5 +40,4 @@ returns-in-Refused c =
 
 pub returns-in-Passed : goal.returns-in-Passed
 returns-in-Passed c =
-    let all = c.evaluate.ensures in
-    record { answer = all.0; main = all.1.0; dispersion = all.1.1.0; main_marks = all.1.1.1.0; dispersion_marks = all.1.1.1.1 }
+    record { answer = c.evaluate.ensures.answer; main = c.evaluate.ensures.main; dispersion = c.evaluate.ensures.dispersion; main_marks = c.evaluate.ensures.main_marks; dispersion_marks = c.evaluate.ensures.dispersion_marks }

@@ -18,6 +18,14 @@ module _ (list : List ℕ) (i : ℕ) where
   unfolding cut every
   last-group h low = rw (drop-cons list i 0 h, lt-leb 128 (get_or list i 0) low)
 
+  more-to-come : i < length list → 128 ≤ get_or list i 0 → cut list (i + 1) ≡ cut list i
+  unfolding cut every
+  more-to-come h high = rw (drop-cons list i 0 h, le-leb 128 (get_or list i 0) high, add-one i)
+
+  none_left : length list ≤ i → cut list i ≡ true
+  unfolding cut every
+  none_left h = rw (drop_of_length-le list h)
+
 pub loop-i-init : goal.loop-i-init
 loop-i-init c =
     refl

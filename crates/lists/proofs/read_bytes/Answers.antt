@@ -14,6 +14,12 @@ module _ (room from n : ℕ) where
   past : room < from → leb (from + n) room ≡ false
   past h = lt-leb (from + n) room (omega arith)
 
+  short : room - from < n → leb (from + n) room ≡ false
+  short h = lt-leb (from + n) room (omega arith)
+
+  enough : from ≤ room → n ≤ room - from → leb (from + n) room ≡ true
+  enough h k = le-leb (from + n) room (omega arith)
+
 pub returns-then-list-from : goal.returns-then-list-from
 unfolding bytes_from
 returns-then-list-from c =

@@ -17,36 +17,36 @@ use Rattle.reports.specs.Report.{chart_report, text_on, text_of}
 use Rattle.reports.specs.Steps.{Legal, LegalFlow, said_by, size}
 use Rattle.laws.proofs.Rooms.{told-as}
 use borrow.Author.Rules.{rules}
-use Rattle.reports.proofs.report.Goals.{In-Read-2}
+use Rattle.reports.proofs.report.Goals.{In-Read}
 use Rattle.reports.proofs.report.Goals as goal
 
 -- ---- what is known of the chart that was read
 
-legal : (c : In-Read-2) → Legal (c.in-Read.chart)
+legal : (c : In-Read) → Legal (c.in-Read.chart)
 legal c =
     subst LegalFlow c.in-Read.is c.read_flow.ensures.legal
 
-said : (c : In-Read-2) → flow_of c.args.input.now ≡ flow (c.in-Read.chart) (take (size (c.in-Read.chart)) (c.read_flow.new.values))
+said : (c : In-Read) → flow_of c.args.input.now ≡ flow (c.in-Read.chart) (take (size (c.in-Read.chart)) (c.read_flow.new.values))
 said c =
     c.read_flow.ensures.said ∙ ap (λ (f : Flow). said_by f (c.read_flow.new.values)) c.in-Read.is
 
-room : (c : In-Read-2) → size (c.in-Read.chart) ≤ length (c.read_flow.new.values)
+room : (c : In-Read) → size (c.in-Read.chart) ≤ length (c.read_flow.new.values)
 room c =
     omega (arith, (legal c).few, c.read_flow.auto.values, length-replicate 2048 (of_bits binary64 0))
 
 pub overflow_mul-n : goal.overflow_mul-n
 overflow_mul-n c =
-    omega (arith, (own c.in-Read.chart (legal (goal.at.overflow_mul-n c).In-Read-2).own).all)
+    omega (arith, (own c.in-Read.chart (legal (goal.at.overflow_mul-n c).In-Read).own).all)
 
 pub slice_bounds-report_chart-end : goal.slice_bounds-report_chart-end
 slice_bounds-report_chart-end c =
-    room (goal.at.slice_bounds-report_chart-end c).In-Read-2
+    room (goal.at.slice_bounds-report_chart-end c).In-Read
 
 pub report_chart-requires : goal.report_chart-requires
 report_chart-requires c =
     let n = size (c.in-Read.chart) in record {
-      legal = legal (goal.at.report_chart-requires c).In-Read-2;
-      whole = ap (λ (k : ℕ). length (take k (c.read_flow.new.values))) (sub-zero n) ∙ length-take-le n (c.read_flow.new.values) (room (goal.at.report_chart-requires c).In-Read-2);
+      legal = legal (goal.at.report_chart-requires c).In-Read;
+      whole = ap (λ (k : ℕ). length (take k (c.read_flow.new.values))) (sub-zero n) ∙ length-take-le n (c.read_flow.new.values) (room (goal.at.report_chart-requires c).In-Read);
     }
 
 pub returns-in-Refused : goal.returns-in-Refused
@@ -64,6 +64,6 @@ returns-in-Read c =
     let args = c.args in
     let n = size (c.in-Read.chart) in
     let is : text_of args.input.now ≡ chart_report (asked (c.in-Read.chart) (take (n - 0) (c.read_flow.new.values))) =
-    ap text_on (said (goal.at.returns-in-Read c).In-Read-2) ∙ ap (λ (k : ℕ). chart_report (asked (c.in-Read.chart) (take k (c.read_flow.new.values)))) (sym (sub-zero n)) in
+    ap text_on (said (goal.at.returns-in-Read c).In-Read) ∙ ap (λ (k : ℕ). chart_report (asked (c.in-Read.chart) (take k (c.read_flow.new.values)))) (sym (sub-zero n)) in
     let all = told-as _ _ args.out.now (sym is) c.report_chart.ensures in
     record { answer = all.0; room = all.1 }

@@ -3,7 +3,7 @@ use native.Mathlib.Omega.{arith}
 use Rattle.sheets.proofs.check.Goals as goal
 
 pub check_in-requires : goal.check_in-requires
-check_in-requires c =
+check_in-requires c few =
     omega (arith, c.if-values-le-FEW.true)
 
 pub returns-then-values-le-FEW : goal.returns-then-values-le-FEW
@@ -11,7 +11,7 @@ returns-then-values-le-FEW c =
     c.check_in.ensures
 
 pub check_in-requires-2 : goal.check_in-requires-2
-check_in-requires-2 c =
+check_in-requires-2 c few =
     omega (arith, few)
 
 pub returns : goal.returns

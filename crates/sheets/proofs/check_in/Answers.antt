@@ -18,7 +18,7 @@ use Rattle.sheets.proofs.check_in.Goals as goal
 
 done : (c : In-Done) → Made ((under c.args.limits c.args.width c.args.stops.now c.args.moving)) c.args.set.mask c.args.values.now c.args.marks.now c.mark.new.marks
 done c =
-    made ((under c.args.limits c.args.width c.args.stops.now c.args.moving)) c.args.set.mask c.args.values.now c.args.marks.now _ c.mark.result c.pre c.mark.ensures.answer
+    made ((under c.args.limits c.args.width c.args.stops.now c.args.moving)) c.args.set.mask c.args.values.now c.args.marks.now _ c.mark.result c.requires c.mark.ensures.answer
     (ap numbered c.in-Done.is) c.mark.ensures.marks
 
 pub slice_bounds-check_marks-end : goal.slice_bounds-check_marks-end

@@ -3,22 +3,20 @@ use native.Mathlib.Omega.{arith}
 use Rattle.sheets.proofs.write.Goals as goal
 
 pub write_in-requires : goal.write_in-requires
-write_in-requires c =
+write_in-requires c few =
     omega (arith, c.if-values-le-FEW.true)
 
 pub returns-then-values-le-FEW : goal.returns-then-values-le-FEW
 returns-then-values-le-FEW c =
-    let all = c.write_in.ensures in
-    record { answer = all.0; room = all.1 }
+    record { answer = c.write_in.ensures.answer; room = c.write_in.ensures.room }
 
 pub write_in-requires-2 : goal.write_in-requires-2
-write_in-requires-2 c =
+write_in-requires-2 c few =
     omega (arith, few)
 
 pub returns : goal.returns
 returns c =
-    let all = c.write_in-2.ensures in
-    record { answer = all.0; room = all.1 }
+    record { answer = c.write_in-2.ensures.answer; room = c.write_in-2.ensures.room }
 
 pub slice_bounds-write_in-count : goal.slice_bounds-write_in-count
 slice_bounds-write_in-count c =

@@ -9,8 +9,7 @@ mark_in-requires c =
 
 pub returns-then-values : goal.returns-then-values
 returns-then-values c =
-    let all = c.mark_in.ensures in
-    record { answer = all.0; marks = all.1 }
+    record { answer = c.mark_in.ensures.answer; marks = c.mark_in.ensures.marks }
 
 pub mark_in-requires-2 : goal.mark_in-requires-2
 mark_in-requires-2 c =
@@ -18,5 +17,4 @@ mark_in-requires-2 c =
 
 pub returns : goal.returns
 returns c =
-    let all = c.mark_in-2.ensures in
-    record { answer = all.0; marks = all.1 }
+    record { answer = c.mark_in-2.ensures.answer; marks = c.mark_in-2.ensures.marks }

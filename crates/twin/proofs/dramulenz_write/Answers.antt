@@ -9,8 +9,7 @@ write_in-requires c =
 
 pub returns-then-values : goal.returns-then-values
 returns-then-values c =
-    let all = c.write_in.ensures in
-    record { answer = all.0; room = all.1 }
+    record { answer = c.write_in.ensures.answer; room = c.write_in.ensures.room }
 
 pub write_in-requires-2 : goal.write_in-requires-2
 write_in-requires-2 c =
@@ -18,5 +17,4 @@ write_in-requires-2 c =
 
 pub returns : goal.returns
 returns c =
-    let all = c.write_in-2.ensures in
-    record { answer = all.0; room = all.1 }
+    record { answer = c.write_in-2.ensures.answer; room = c.write_in-2.ensures.room }

@@ -5,4 +5,4 @@ use Rattle.attributes.proofs.proportions.excess.Goals as goal
 
 pub returns : goal.returns
 returns c =
-    bits-tell _ _ _ _ (search rules) (search rules) c.wrapping_sub_u64-rest.ensures c.wrapping_sub_u64-less.ensures
+    bits-tell _ _ _ _ (search rules) (search rules) c.wrapping_sub_u64-rest.ensures.value c.wrapping_sub_u64-less.ensures.value
