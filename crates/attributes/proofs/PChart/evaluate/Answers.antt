@@ -69,5 +69,5 @@ returns-in-Passed c =
     let is = ap₂ (λ (w s : Bool). first_of (ahead w n s) 0) c.wrong-wrong.ensures c.too_short-short.ensures in
     let all = finished args.counts.now n (sizes_p n args.sizes.now) args.ucl.now (length-tabulate _ n) (room (goal.at.returns-in-Passed c).In-Passed).in-ucl
     c.fill_sizes.ensures c.centre-cl.ensures (c.variance.ensures ∙ ap variance_p c.centre-cl.ensures)
-    _ n _ args.values.now args.lcl.now args.out.now args.z.now args.has_z.now (sym is ∙ none) c.evaluate.ensures in
+    _ n _ args.values.now args.lcl.now args.out.now args.z.now args.has_z.now (sym is ∙ none) (c.evaluate.ensures.answer, (c.evaluate.ensures.values, (c.evaluate.ensures.ucl, (c.evaluate.ensures.lcl, (c.evaluate.ensures.out, (c.evaluate.ensures.z, c.evaluate.ensures.has_z)))))) in
     record { answer = all.0; values = all.1.0; ucl = all.1.1.0; lcl = all.1.1.1.0; out = all.1.1.1.1.0; z = all.1.1.1.1.1.0; has_z = all.1.1.1.1.1.1 }

@@ -69,5 +69,5 @@ returns-in-Passed c =
     let long = length-take-le n args.sizes.now (held-U _ _ _ (record-right (goal.at.returns-in-Passed c).In-Passed)).in-sizes in
     let all = finished args.counts.now n (take n args.sizes.now) args.ucl.now long (room (goal.at.returns-in-Passed c).In-Passed).in-ucl
     c.fill_sizes.ensures c.centre-cl.ensures c.centre-cl.ensures
-    _ n _ args.values.now args.lcl.now args.out.now args.z.now args.has_z.now (sym is ∙ none) c.evaluate.ensures in
+    _ n _ args.values.now args.lcl.now args.out.now args.z.now args.has_z.now (sym is ∙ none) (c.evaluate.ensures.answer, (c.evaluate.ensures.values, (c.evaluate.ensures.ucl, (c.evaluate.ensures.lcl, (c.evaluate.ensures.out, (c.evaluate.ensures.z, c.evaluate.ensures.has_z)))))) in
     record { answer = all.0; values = all.1.0; ucl = all.1.1.0; lcl = all.1.1.1.0; out = all.1.1.1.1.0; z = all.1.1.1.1.1.0; has_z = all.1.1.1.1.1.1 }

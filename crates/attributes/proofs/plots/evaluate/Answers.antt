@@ -15,5 +15,5 @@ returns c =
     let pre = c.requires in
     let all = plotted-so args.cl args.variance args.counts.now args.n args.values.now args.ucl.now pre.1 pre.2 c.fill_values.ensures
     (in-two-steps args.variance args.n args.ucl.now pre.2 c.fill_variances.ensures c.fill_sigmas.ensures)
-    (plotted c.plot.result) args.lcl.now args.out.now args.z.now args.has_z.now pre.3 pre.4 pre.5 pre.6 c.answer.ensures c.plot.ensures in
+    (plotted c.plot.result) args.lcl.now args.out.now args.z.now args.has_z.now pre.3 pre.4 pre.5 pre.6 c.answer.ensures (c.plot.ensures.answer, (c.plot.ensures.values, (c.plot.ensures.ucl, (c.plot.ensures.lcl, (c.plot.ensures.out, (c.plot.ensures.z, c.plot.ensures.has_z)))))) in
     record { answer = all.0; values = all.1.0; ucl = all.1.1.0; lcl = all.1.1.1.0; out = all.1.1.1.1.0; z = all.1.1.1.1.1.0; has_z = all.1.1.1.1.1.1 }

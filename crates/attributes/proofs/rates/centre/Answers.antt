@@ -35,5 +35,5 @@ returns-in-Computed c =
     let args = c.args in
     ap₂ (div binary64)
     (c.nearest_u64_to_f64.ensures ∙ ap whole (c.total-damaged.ensures ∙ ap (λ (k : ℕ). total_of (take k args.counts.now)) (sub-zero args.c.count)))
-    (c.sum_of-units.ensures ∙ ap (λ (k : ℕ). c.sum_of-units (take k args.sizes.now)) (sub-zero args.c.count))
+    (c.sum_of-units.ensures ∙ ap (λ (k : ℕ). sum_of (take k args.sizes.now)) (sub-zero args.c.count))
     ∙ computed-centre _ _ c.in-Computed.is

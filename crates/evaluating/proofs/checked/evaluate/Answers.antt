@@ -49,7 +49,7 @@ dispersion-limits c =
 
 was-sound : (c : Else-not-w) → sound ((in_mode (interrupted ((asked c.args.c c.args.values.now)) c.args.positions.now) c.args.width)) ≡ true
 was-sound c =
-    sym ((ap (λ (w : Measured). w.sound) ((c.measure-w.ensures.limits ∙ sym (same-measures ((asked c.args.c c.args.values.now)) c.args.positions.now c.args.width))))) ∙ c.if-not-w.false
+    sym ((ap (λ (w : Measured). w.sound) ((c.measure-w.ensures.limits ∙ sym (same-measures ((asked c.args.c c.args.values.now)) c.args.positions.now c.args.width))))) ∙ not-false _ c.if-not-w.false
 
 pub measure-w-requires : goal.measure-w-requires
 measure-w-requires c =
@@ -57,7 +57,7 @@ measure-w-requires c =
 
 pub returns-then-not-w : goal.returns-then-not-w
 returns-then-not-w c =
-    let wild = sym (measured-sound (goal.at.returns-then-not-w c).After-measure-w) ∙ c.if-not-w.true in record {
+    let wild = sym (measured-sound (goal.at.returns-then-not-w c).After-measure-w) ∙ not-true _ c.if-not-w.true in record {
       answer = answer-refused _ _ 7 (number-7 ((in_mode (interrupted ((asked c.args.c c.args.values.now)) c.args.positions.now) c.args.width)) ((positions_wrong c.args.c c.args.positions.now)) (width_wrong c.args.width) ((no_room c.args.c (length c.args.main.now) (length c.args.dispersion.now)
           (length c.args.main_marks.now) (length c.args.dispersion_marks.now))) c.requires wild) (λ z. omega arith);
       main = slice-7 _ _ _ c.measure-w.new.main c.measure-w.auto.main c.zero_all.ensures.main;
@@ -95,9 +95,8 @@ mark_both-requires c =
 pub returns : goal.returns
 returns c =
     let a = (in_mode (interrupted ((asked c.args.c c.args.values.now)) c.args.positions.now) c.args.width) in
-    let is = c.measure-w.ensures.1 in
-    let points = front-series ((asked c.args.c c.args.values.now)) 0 _ c.args.main.now _ c.points_in-n.ensures is.0 in
-    let ranges = front-series ((asked c.args.c c.args.values.now)) 1 _ c.args.dispersion.now _ c.points_in-k.ensures is.1 in
+    let points = front-series ((asked c.args.c c.args.values.now)) 0 _ c.args.main.now _ c.points_in-n.ensures c.measure-w.ensures.main in
+    let ranges = front-series ((asked c.args.c c.args.values.now)) 1 _ c.args.dispersion.now _ c.points_in-k.ensures c.measure-w.ensures.dispersion in
     let stops = front-stops c.args.c c.args.positions.now in
     let main = marks-are a 0 (main-limits (goal.at.returns c).After-measure-w) (points ∙ sym (same-series ((asked c.args.c c.args.values.now)) c.args.positions.now c.args.width 0)) stops (moving-main c.args.c) in
     let dispersion =
@@ -106,8 +105,8 @@ returns c =
           ∙ done-by a (main-limits (goal.at.returns c).After-measure-w) (dispersion-limits (goal.at.returns c).After-measure-w) main dispersion
           ∙ answer-done a ((no_room c.args.c (length c.args.main.now) (length c.args.dispersion.now)
           (length c.args.main_marks.now) (length c.args.dispersion_marks.now))) (number-0 _ _ _ _ c.requires (was-sound (goal.at.returns c).Else-not-w));
-      main = slice-done _ _ _ c.args.main.now is.0 refl;
-      dispersion = slice-done _ _ _ c.args.dispersion.now is.1 refl;
+      main = slice-done _ _ _ c.args.main.now c.measure-w.ensures.main refl;
+      dispersion = slice-done _ _ _ c.args.dispersion.now c.measure-w.ensures.dispersion refl;
       main_marks = slice-done _ _ _ c.args.main_marks.now c.mark_both.ensures.main_marks main;
       dispersion_marks = slice-done _ _ _ c.args.dispersion_marks.now c.mark_both.ensures.dispersion_marks dispersion;
     }

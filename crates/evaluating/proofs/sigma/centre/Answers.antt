@@ -31,7 +31,7 @@ pub returns-then-not-w : goal.returns-then-not-w
 unfolding sigma_number
 returns-then-not-w c =
     figure-refused _ Overflow
-    (number-7 _ _ _ _ (passed-tests (goal.at.returns-then-not-w c).In-Passed) (sym (measured-sound (goal.at.returns-then-not-w c).After-measure-w) ∙ c.if-not-w.true)) _
+    (number-7 _ _ _ _ (passed-tests (goal.at.returns-then-not-w c).In-Passed) (sym (measured-sound (goal.at.returns-then-not-w c).After-measure-w) ∙ not-true _ c.if-not-w.true)) _
 
 pub returns-in-Refused : goal.returns-in-Refused
 unfolding sigma_number
@@ -42,5 +42,5 @@ pub returns-else-not-w : goal.returns-else-not-w
 unfolding sigma_number limits_of by_series dispersion_limits
 returns-else-not-w c =
     figure-done _
-    (number-0 _ _ _ _ (passed-tests (goal.at.returns-else-not-w c).In-Passed) (sym (measured-sound (goal.at.returns-else-not-w c).After-measure-w) ∙ c.if-not-w.false))
+    (number-0 _ _ _ _ (passed-tests (goal.at.returns-else-not-w c).In-Passed) (sym (measured-sound (goal.at.returns-else-not-w c).After-measure-w) ∙ not-false _ c.if-not-w.false))
     (ap (λ (w : Measured). w.dispersion.cl) c.measure-w.ensures)

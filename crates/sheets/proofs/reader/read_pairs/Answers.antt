@@ -11,7 +11,7 @@ use Rattle.sheets.proofs.reader.read_pairs.Goals as goal
 -- three bytes more follow
 near : (c : Then-at-near_end) → c.loop-left.at + 3 < length c.args.s.now
 near c =
-    omega (arith, ltb-true c.loop-left.at c.less_three-near_end.result c.if-at-near_end.true, c.less_three-near_end.ensures)
+    omega (arith, c.if-at-near_end.true, c.less_three-near_end.ensures)
 
 -- the later of the two points is one of those left
 room : (c : Else-stated-second) → c.loop-left.point + c.byte-a.result + 1 + c.byte-c.result < length c.loop-left.stated

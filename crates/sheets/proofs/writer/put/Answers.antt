@@ -24,5 +24,4 @@ returns-in-Short c =
     let pre = c.requires in
     let holds = le-leb (length (groups args.x)) (length args.out.now) (pre) in
     let never : ◌≡◌ {A = ℕ × ℕ} (6, 0) (0, length (groups args.x)) = sym (ap written c.in-Short.is) ∙ c.write_number.ensures.answer ∙ simp holds in
-    let all = absurd (let z : ◌≡◌ {A = ℕ} 6 0 = ap (λ (p : ℕ × ℕ). p.0) never in omega arith) in
-    record { count = all.0; room = all.1 }
+    absurd (let z : ◌≡◌ {A = ℕ} 6 0 = ap (λ (p : ℕ × ℕ). p.0) never in omega arith)

@@ -49,8 +49,7 @@ returns-then-out-head c =
     let total = sheet-length args.set args.marks.now c.measure-measured.result.marked c.measure-measured.result.len c.measure-measured.ensures c.size.result
     c.size-2.result c.size-3.result c.size.ensures.0 c.size-2.ensures.0 c.size-3.ensures.0 in
     let short = lt-leb (length (sheet_of args.set args.marks.now)) (length args.out.now) (omega (arith, total, c.if-out-head.true)) in
-    let all = simp short (refl, refl) in
-    record { answer = all.0; room = all.1 }
+    record { answer = simp short refl; room = simp short refl }
 
 pub write_head-a-requires : goal.write_head-a-requires
 write_head-a-requires c =
@@ -129,5 +128,7 @@ returns c =
     c.write_head-a.ensures.room c.write_head-a.ensures.count c.write_entries-b.new.out c.write_entries-b.result c.write_entries-b.ensures.room
     c.write_entries-b.ensures.count in
     let parts = sheet-parts args.set args.marks.now c.measure-measured.result.marked c.measure-measured.result.len c.measure-measured.ensures in
-    let all = simp holds (ap (λ (n : ℕ). (0, n)) (fills.0 ∙ ap length parts), fills.1 ∙ ap (λ (l : List ℕ). at_front l args.out.now) parts) in
-    record { answer = all.0; room = all.1 }
+    record {
+      answer = simp holds (ap (λ (n : ℕ). (0, n)) (fills.0 ∙ ap length parts));
+      room = simp holds (fills.1 ∙ ap (λ (l : List ℕ). at_front l args.out.now) parts);
+    }
