@@ -55,7 +55,7 @@ returns-in-Refused c =
     let args = c.args in
     let is : text_of args.input.now ≡ r_line c.in-Refused.why =
     ap text_on (c.read_flow.ensures.said ∙ ap (λ (f : Flow). said_by f c.read_flow.new.values) c.in-Refused.is) in
-    let all = told-as _ _ args.out.now (sym is) c.refuse.ensures in
+    let all = told-as _ _ args.out.now (sym is) (c.refuse.ensures.answer, c.refuse.ensures.room) in
     record { answer = all.0; room = all.1 }
 
 pub returns-in-Read : goal.returns-in-Read
@@ -65,5 +65,5 @@ returns-in-Read c =
     let n = size (c.in-Read.chart) in
     let is : text_of args.input.now ≡ chart_report (asked (c.in-Read.chart) (take (n - 0) (c.read_flow.new.values))) =
     ap text_on (said (goal.at.returns-in-Read c).In-Read) ∙ ap (λ (k : ℕ). chart_report (asked (c.in-Read.chart) (take k (c.read_flow.new.values)))) (sym (sub-zero n)) in
-    let all = told-as _ _ args.out.now (sym is) c.report_chart.ensures in
+    let all = told-as _ _ args.out.now (sym is) (c.report_chart.ensures.answer, c.report_chart.ensures.room) in
     record { answer = all.0; room = all.1 }

@@ -9,7 +9,10 @@ mark_in-requires c =
 
 pub returns-then-values : goal.returns-then-values
 returns-then-values c =
-    record { answer = c.mark_in.ensures.answer; marks = c.mark_in.ensures.marks }
+    record {
+      answer = c.mark_in.ensures.answer;
+      marks = c.mark_in.ensures.marks;
+    }
 
 pub mark_in-requires-2 : goal.mark_in-requires-2
 mark_in-requires-2 c =
@@ -17,4 +20,7 @@ mark_in-requires-2 c =
 
 pub returns : goal.returns
 returns c =
-    record { answer = c.mark_in-2.ensures.answer; marks = c.mark_in-2.ensures.marks }
+    record {
+      answer = c.mark_in-2.ensures.answer;
+      marks = c.mark_in-2.ensures.marks;
+    }

@@ -9,7 +9,10 @@ write_in-requires c =
 
 pub returns-then-values : goal.returns-then-values
 returns-then-values c =
-    record { answer = c.write_in.ensures.answer; room = c.write_in.ensures.room }
+    record {
+      answer = c.write_in.ensures.answer;
+      room = c.write_in.ensures.room;
+    }
 
 pub write_in-requires-2 : goal.write_in-requires-2
 write_in-requires-2 c =
@@ -17,4 +20,7 @@ write_in-requires-2 c =
 
 pub returns : goal.returns
 returns c =
-    record { answer = c.write_in-2.ensures.answer; room = c.write_in-2.ensures.room }
+    record {
+      answer = c.write_in-2.ensures.answer;
+      room = c.write_in-2.ensures.room;
+    }

@@ -40,7 +40,7 @@ overflow_cast-set c =
     omega (arith, (begun bs args.set started).small)
 
 pub mark_values-requires : goal.mark_values-requires
-mark_values-requires c =
+mark_values-requires c few =
     let args = c.args in
     let bs = args.values.now in
     let started = sym c.read_values-refused.ensures.value ∙ c.if-refused-ne0.false in

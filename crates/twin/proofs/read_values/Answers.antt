@@ -12,20 +12,26 @@ use Rattle.twin.proofs.read_values.Goals as goal
 pub returns-then-b-ne0 : goal.returns-then-b-ne0
 unfolding early values_after first_of
 returns-then-b-ne0 c =
-    let all = simp (ne_eqb (length c.args.b.now % 8) 0 (λ e. omega arith)) (refl, refl) in
-    record { value = all.0; vs_after = all.1 }
+    record {
+      value = simp (ne_eqb (length c.args.b.now % 8) 0 (λ e. omega arith)) refl;
+      vs_after = simp (ne_eqb (length c.args.b.now % 8) 0 (λ e. omega arith)) refl;
+    }
 
 pub returns-then-b-gt-MOST : goal.returns-then-b-gt-MOST
 unfolding early values_after first_of
 returns-then-b-gt-MOST c =
-    let all = simp (eq-eqb _ _ c.if-b-ne0.false, lt-ltb _ _ c.if-b-gt-MOST.true) (refl, refl) in
-    record { value = all.0; vs_after = all.1 }
+    record {
+      value = simp (eq-eqb _ _ c.if-b-ne0.false, lt-ltb _ _ c.if-b-gt-MOST.true) refl;
+      vs_after = simp (eq-eqb _ _ c.if-b-ne0.false, lt-ltb _ _ c.if-b-gt-MOST.true) refl;
+    }
 
 pub returns-then-set : goal.returns-then-set
 unfolding early values_after first_of
 returns-then-set c =
-    let all = simp (eq-eqb _ _ c.if-b-ne0.false, le-ltb _ _ c.if-b-gt-MOST.false, lt-ltb _ _ c.if-set.true) (refl, refl) in
-    record { value = all.0; vs_after = all.1 }
+    record {
+      value = simp (eq-eqb _ _ c.if-b-ne0.false, le-ltb _ _ c.if-b-gt-MOST.false, lt-ltb _ _ c.if-set.true) refl;
+      vs_after = simp (eq-eqb _ _ c.if-b-ne0.false, le-ltb _ _ c.if-b-gt-MOST.false, lt-ltb _ _ c.if-set.true) refl;
+    }
 
 pub overflow_cast-t-7 : goal.overflow_cast-t-7
 overflow_cast-t-7 c =
@@ -38,5 +44,7 @@ read_floats-requires c =
 pub returns : goal.returns
 unfolding early values_after first_of
 returns c =
-    let all = simp (eq-eqb _ _ c.if-b-ne0.false, le-ltb _ _ c.if-b-gt-MOST.false, le-ltb _ _ c.if-set.false) (refl, c.read_floats.ensures) in
-    record { value = all.0; vs_after = all.1 }
+    record {
+      value = simp (eq-eqb _ _ c.if-b-ne0.false, le-ltb _ _ c.if-b-gt-MOST.false, le-ltb _ _ c.if-set.false) refl;
+      vs_after = simp (eq-eqb _ _ c.if-b-ne0.false, le-ltb _ _ c.if-b-gt-MOST.false, le-ltb _ _ c.if-set.false) c.read_floats.ensures;
+    }
