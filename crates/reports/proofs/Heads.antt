@@ -12,6 +12,7 @@ use Rattle.groups.specs.declared.Reading.TheVariants.{Number}
 use Rattle.groups.specs.Groups.{number_at}
 use Rattle.groups.proofs.Onward.{in_place}
 use Rattle.laws.specs.Refusals.{first_of}
+use Rattle.sets.specs.Sets.{too_large}
 use Rattle.charts.specs.declared.Chart.{Chart}
 use Rattle.charts.specs.declared.Refusal.{Refusal}
 use Rattle.charts.specs.declared.Changed.TheVariants.{Done, Refused}
@@ -31,6 +32,22 @@ pub record Passed (wrong : ℕ → Bool) (s : List ℕ) (at v next : ℕ) : Type
 module _ (why : ℕ) (wrong : ℕ → Bool) (s : List ℕ) (at : ℕ) (rest : ℕ → ℕ → Said) where
   pub goes : {v next : ℕ} → Passed wrong s at v next → flow.number why wrong s at rest ≡ rest v next
   goes {v} {next} p = in_place (refused 12) (refused why) (λ v. not (wrong v)) s at rest v next p.stands (ap not p.right)
+
+-- ---- what is read behind each of the four numbers
+
+module _ (s : List ℕ) where
+  abbrev pub after_count : ℕ → ℕ → ℕ → ℕ → ℕ → Said
+  after_count kind size set count end =
+      flow.values_from s (with_count (with_set (new_chart kind size) (record { mask = set })) count) (count * size) end
+
+  abbrev pub after_set : ℕ → ℕ → ℕ → ℕ → Said
+  after_set kind size set r = flow.number 5 (count_wrong size) s r (after_count kind size set)
+
+  abbrev pub after_size : ℕ → ℕ → ℕ → Said
+  after_size kind size q = flow.number 4 too_large s q (after_set kind size)
+
+  abbrev pub after_kind : ℕ → ℕ → Said
+  after_kind kind p = flow.number 1 (size_wrong kind) s p (after_size kind)
 
 -- ---- a chart can be made exactly if its size is not wrong
 

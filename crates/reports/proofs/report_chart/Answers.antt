@@ -35,16 +35,15 @@ use Rattle.reports.proofs.report_chart.Goals as goal
 
 abbrev legal : (c : Else-not-all_finite) → Legal ((asked c.args.chart c.args.values.now)).chart
 legal c =
-    c.requires.0
+    c.requires.legal
 
 abbrev whole : (c : Else-not-all_finite) → length ((asked c.args.chart c.args.values.now)).values ≡ size ((asked c.args.chart c.args.values.now)).chart
 whole c =
-    c.requires.1
+    c.requires.whole
 
 finite : (c : Else-not-all_finite) → all_finite ((asked c.args.chart c.args.values.now)).values ≡ true
 finite c =
-    let passed : not c.all_finite.result ≡ false = c.if-not-all_finite.false in
-    sym c.all_finite.ensures ∙ not-false _ passed
+    sym c.all_finite.ensures ∙ c.if-not-all_finite.false
 
 -- ---- what evaluating answered
 
@@ -69,39 +68,31 @@ done c =
 
 none-refused : (c : In-Done) → refusal_of ((asked c.args.chart c.args.values.now)) ≡ 0
 none-refused c =
-    done-so ((asked c.args.chart c.args.values.now)) (c.requires.0) (c.requires.1) ((let passed : not c.all_finite.result ≡ false = c.if-not-all_finite.false in
-    sym c.all_finite.ensures ∙ not-false _ passed)) refl c.in-Done.e (done c)
+    done-so ((asked c.args.chart c.args.values.now)) (c.requires.legal) (c.requires.whole) ((sym c.all_finite.ensures ∙ c.if-not-all_finite.false)) refl c.in-Done.e (done c)
 
 main-is : (c : In-Done) → c.in-Done.e.main ≡ limits_of ((asked c.args.chart c.args.values.now)) 0
 main-is c =
-    main-limits ((asked c.args.chart c.args.values.now)) (c.requires.0) (c.requires.1) ((let passed : not c.all_finite.result ≡ false = c.if-not-all_finite.false in
-    sym c.all_finite.ensures ∙ not-false _ passed)) refl c.in-Done.e (done c)
+    main-limits ((asked c.args.chart c.args.values.now)) (c.requires.legal) (c.requires.whole) ((sym c.all_finite.ensures ∙ c.if-not-all_finite.false)) refl c.in-Done.e (done c)
 
 dispersion-is : (c : In-Done) → c.in-Done.e.dispersion ≡ limits_of ((asked c.args.chart c.args.values.now)) 1
 dispersion-is c =
-    dispersion-limits ((asked c.args.chart c.args.values.now)) (c.requires.0) (c.requires.1) ((let passed : not c.all_finite.result ≡ false = c.if-not-all_finite.false in
-    sym c.all_finite.ensures ∙ not-false _ passed)) refl c.in-Done.e (done c)
+    dispersion-limits ((asked c.args.chart c.args.values.now)) (c.requires.legal) (c.requires.whole) ((sym c.all_finite.ensures ∙ c.if-not-all_finite.false)) refl c.in-Done.e (done c)
 
 number_is : (c : In-Done)
     → c.in-Done.e.marks ≡ number_of (series_marks ((asked c.args.chart c.args.values.now)) 0) + number_of (series_marks ((asked c.args.chart c.args.values.now)) 1)
 number_is c =
-    marks-number ((asked c.args.chart c.args.values.now)) (c.requires.0) (c.requires.1) ((let passed : not c.all_finite.result ≡ false = c.if-not-all_finite.false in
-    sym c.all_finite.ensures ∙ not-false _ passed)) refl c.in-Done.e (done c)
-
--- what a slice for marks holds, the answer being known
-abbrev left : tie.After-e → ℕ → Evaluated → List ℕ
-left c s r = lent_after (evaluated r).number 0 (series_marks (question (first c)) s) (replicate 2048 0)
+    marks-number ((asked c.args.chart c.args.values.now)) (c.requires.legal) (c.requires.whole) ((sym c.all_finite.ensures ∙ c.if-not-all_finite.false)) refl c.in-Done.e (done c)
 
 marks-are : (c : In-Done) → take (((asked c.args.chart c.args.values.now)).chart.count - 0) (c.evaluate.new.main_marks) ≡ series_marks ((asked c.args.chart c.args.values.now)) 0
 marks-are c =
     marks-left ((asked c.args.chart c.args.values.now)) 0 (replicate 2048 0) (c.evaluate.new.main_marks) ((asked c.args.chart c.args.values.now)).chart.count
-    (c.evaluate.ensures.main_marks ∙ ap (left c 0) c.in-Done.is) (sym (points-main ((asked c.args.chart c.args.values.now)).chart))
+    (c.evaluate.ensures.main_marks ∙ ap ((λ (s : ℕ) (r : Evaluated). lent_after (evaluated r).number 0 (series_marks ((asked c.args.chart c.args.values.now)) s) (replicate 2048 0)) 0) c.in-Done.is) (sym (points-main ((asked c.args.chart c.args.values.now)).chart))
 
-others-are : (c : tie.After-e) (n : ℕ) → n ≡ points_in (question (first c)).chart 1
-    → take (n - 0) (others c) ≡ series_marks (question (first c)) 1
+others-are : (c : In-Done) (n : ℕ) → n ≡ points_in ((asked c.args.chart c.args.values.now)).chart 1
+    → take (n - 0) (c.evaluate.new.dispersion_marks) ≡ series_marks ((asked c.args.chart c.args.values.now)) 1
 others-are c n e =
-    marks-left (question (first c)) 1 (replicate 2048 0) (others c) n
-    ((evaluating c).evaluate.ensures.1.1.1.1 ∙ ap (left c 1) c.e.given.1) e
+    marks-left ((asked c.args.chart c.args.values.now)) 1 (replicate 2048 0) (c.evaluate.new.dispersion_marks) n
+    (c.evaluate.ensures.dispersion_marks ∙ ap ((λ (s : ℕ) (r : Evaluated). lent_after (evaluated r).number 0 (series_marks ((asked c.args.chart c.args.values.now)) s) (replicate 2048 0)) 1) c.in-Done.is) e
 
 pub returns-then-not-all_finite : goal.returns-then-not-all_finite
 returns-then-not-all_finite c =
@@ -133,12 +124,12 @@ tell-requires c =
       main = ap finite_limits (main-is (goal.at.tell-requires c).In-Done) ∙ finite-main ((asked c.args.chart c.args.values.now)) none;
       dispersion = ap finite_limits (dispersion-is (goal.at.tell-requires c).In-Done) ∙ finite-dispersion ((asked c.args.chart c.args.values.now)) none;
       few = omega (arith, ap length (marks-are (goal.at.tell-requires c).In-Done), length-marks ((asked c.args.chart c.args.values.now)) 0, points-fit ((asked c.args.chart c.args.values.now)).chart (legal (goal.at.tell-requires c).Else-not-all_finite) 0);
-      few_others = omega (arith, ap length (others-are (goal.at.tell-requires c).After-others-2-1 _ points), length-marks ((asked c.args.chart c.args.values.now)) 1, points-fit ((asked c.args.chart c.args.values.now)).chart (legal (goal.at.tell-requires c).Else-not-all_finite) 1);
+      few_others = omega (arith, ap length (others-are (goal.at.tell-requires c).In-Done _ points), length-marks ((asked c.args.chart c.args.values.now)) 1, points-fit ((asked c.args.chart c.args.values.now)).chart (legal (goal.at.tell-requires c).Else-not-all_finite) 1);
       start = first_small ((asked c.args.chart c.args.values.now)).chart;
       number =
           number_is (goal.at.tell-requires c).In-Done
           ∙ sym (both-number (first_index ((asked c.args.chart c.args.values.now)).chart) (series_marks ((asked c.args.chart c.args.values.now)) 0) (series_marks ((asked c.args.chart c.args.values.now)) 1))
-          ∙ sym (ap₂ (λ (m o : List ℕ). length (both_marks (first_index ((asked c.args.chart c.args.values.now)).chart) m o)) (marks-are (goal.at.tell-requires c).In-Done) (others-are (goal.at.tell-requires c).After-others-2-1 _ points));
+          ∙ sym (ap₂ (λ (m o : List ℕ). length (both_marks (first_index ((asked c.args.chart c.args.values.now)).chart) m o)) (marks-are (goal.at.tell-requires c).In-Done) (others-are (goal.at.tell-requires c).In-Done _ points));
     }
 
 pub returns-in-Refused : goal.returns-in-Refused
@@ -153,6 +144,6 @@ pub returns-in-Done : goal.returns-in-Done
 returns-in-Done c =
     let all = told-as _ _ c.args.out.now
     (report-done ((asked c.args.chart c.args.values.now)) (none-refused (goal.at.returns-in-Done c).In-Done) (main-is (goal.at.returns-in-Done c).In-Done) (dispersion-is (goal.at.returns-in-Done c).In-Done) (marks-are (goal.at.returns-in-Done c).In-Done)
-    (others-are (goal.at.returns-in-Done c).After-others-2-1 _ (ranges (goal.at.returns-in-Done c).After-first_index)))
+    (others-are (goal.at.returns-in-Done c).In-Done _ (ranges (goal.at.returns-in-Done c).After-first_index)))
     (c.tell.ensures.answer, c.tell.ensures.room) in
     record { answer = all.0; room = all.1 }

@@ -9,18 +9,14 @@ use Rattle.reports.proofs.Telling.{told-short, told-whole}
 use borrow.Author.Rules.{rules}
 use Rattle.reports.proofs.tell.Goals as goal
 
--- the text, told the index of the second series' first point
-abbrev text : tie.Start → ℕ → List ℕ
-text c first = text_by c.args.chart c.args.e first c.args.marks.now c.args.others.now
-
 pub put_chart-n-requires : goal.put_chart-n-requires
 put_chart-n-requires c =
     rw c.first_index-first.ensures.0 c.requires
 
 pub returns-then-out-n : goal.returns-then-out-n
 returns-then-out-n c =
-    let is = ap (text (goal.at.returns-then-out-n c).Start) c.first_index-first.ensures.0 in
-    let all = told-short (text (goal.at.returns-then-out-n c).Start (first_index c.args.chart)) c.args.out.now _ _ (put_as is c.put_chart-n.ensures) c.if-out-n.true in
+    let is = ap ((λ (first : ℕ). text_by c.args.chart c.args.e first c.args.marks.now c.args.others.now)) c.first_index-first.ensures.0 in
+    let all = told-short ((λ (first : ℕ). text_by c.args.chart c.args.e first c.args.marks.now c.args.others.now) (first_index c.args.chart)) c.args.out.now _ _ (put_as is c.put_chart-n.ensures) c.if-out-n.true in
     record { answer = all.0; room = all.1 }
 
 pub put_chart-requires : goal.put_chart-requires
@@ -30,7 +26,7 @@ put_chart-requires c =
 
 pub returns : goal.returns
 returns c =
-    let is = ap (text (goal.at.returns c).Start) c.first_index-first.ensures.0 in
-    let all = told-whole (text (goal.at.returns c).Start (first_index c.args.chart)) c.args.out.now _ _ (put_as is c.put_chart-n.ensures) c.if-out-n.false _ _
+    let is = ap ((λ (first : ℕ). text_by c.args.chart c.args.e first c.args.marks.now c.args.others.now)) c.first_index-first.ensures.0 in
+    let all = told-whole ((λ (first : ℕ). text_by c.args.chart c.args.e first c.args.marks.now c.args.others.now) (first_index c.args.chart)) c.args.out.now _ _ (put_as is c.put_chart-n.ensures) c.if-out-n.false _ _
     (put_as is c.put_chart.ensures) in
     record { answer = all.0; room = all.1 }

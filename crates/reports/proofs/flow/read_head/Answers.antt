@@ -13,7 +13,7 @@ use Rattle.reports.specs.declared.flow.Head.TheVariants.{Names}
 use Rattle.reports.specs.Steps.{Legal, after_head}
 use Rattle.reports.specs.Flow.{refused, count_wrong, head_from}
 use Rattle.groups.proofs.Onward.{no_number, out-of-place}
-use Rattle.reports.proofs.Heads.{Passed, goes, chart-made, none_made, legal}
+use Rattle.reports.proofs.Heads.{Passed, goes, after_kind, after_size, after_set, after_count, chart-made, none_made, legal}
 use borrow.Author.Rules.{rules}
 use Rattle.reports.proofs.flow.read_head.Goals.{Else-count_wrong, Else-kind_wrong, Else-set, In-Done}
 use Rattle.reports.proofs.flow.read_head.Goals as goal
@@ -29,10 +29,7 @@ kind-passed c =
 
 made : (c : In-Done) → (size_wrong (c.in-Number.kind) (c.in-Number-read_number.size) ≡ false) × (c.in-Done.new ≡ new_chart (c.in-Number.kind) (c.in-Number-read_number.size))
 made c =
-    chart-made _ _ ((record {
-      stands = sym c.read_number.ensures ∙ c.in-Number.is;
-      right = told c.kind_wrong.ensures c.if-kind_wrong.false;
-    })).right (c.in-Done.new) (sym (ap (changed no_chart) c.in-Done.is) ∙ c.new.ensures)
+    chart-made _ _ (told c.kind_wrong.ensures c.if-kind_wrong.false) (c.in-Done.new) (sym (ap (changed no_chart) c.in-Done.is) ∙ c.new.ensures)
 
 size-passed : (c : In-Done)
     → Passed (size_wrong (c.in-Number.kind)) (c.args.s.now) (c.in-Number.second) (c.in-Number-read_number.size) (c.in-Number-read_number.third)
@@ -42,10 +39,6 @@ size-passed c =
 set-passed : (c : Else-set) → Passed too_large (c.args.s.now) (c.in-Number-read_number.third) (c.in-Number-read_number-2.set) (c.in-Number-read_number-2.fourth)
 set-passed c =
     record { stands = sym c.read_number-3.ensures ∙ c.in-Number-read_number-2.is; right = le-ltb _ (c.in-Number-read_number-2.set) c.if-set.false }
-
--- a chart with the set and the count that were read
-abbrev held : tie.Else2 → tie.Else3 → Chart → Chart
-held s c chart = with_count (with_set chart (record { mask = set s })) (count c)
 
 count-passed : (c : Else-count_wrong)
     → Passed (count_wrong (c.in-Number-read_number.size)) (c.args.s.now) (c.in-Number-read_number-2.fourth) (c.in-Number-read_number-3.count) (c.in-Number-read_number-3.next)
@@ -59,7 +52,7 @@ pub returns-in_default : goal.returns-in_default
 unfolding head_from
 returns-in_default c =
     record {
-      said = no_number (refused 12) (refused 12) _ _ _ _ _ (sym c.read_number.ensures ∙ c.in_default.is);
+      said = no_number (refused 12) (refused 12) (λ (v : ℕ). not (kind_wrong v)) c.args.s.now 0 (after_kind c.args.s.now) _ (sym c.read_number.ensures ∙ c.in_default.is);
       legal = tt;
     }
 
@@ -67,7 +60,7 @@ pub returns-then-kind_wrong : goal.returns-then-kind_wrong
 unfolding head_from
 returns-then-kind_wrong c =
     let read = sym c.read_number.ensures ∙ c.in-Number.is in record {
-      said = out-of-place (refused 12) (refused 12) _ _ _ _ _ _ read (ap not (told c.kind_wrong.ensures c.if-kind_wrong.true));
+      said = out-of-place (refused 12) (refused 12) (λ (v : ℕ). not (kind_wrong v)) c.args.s.now 0 (after_kind c.args.s.now) _ _ read (ap not (told c.kind_wrong.ensures c.if-kind_wrong.true));
       legal = tt;
     }
 
@@ -75,7 +68,7 @@ pub returns-in_default-read_number : goal.returns-in_default-read_number
 unfolding head_from
 returns-in_default-read_number c =
     record {
-      said = goes 12 _ _ _ _ (kind-passed (goal.at.returns-in_default-read_number c).Else-kind_wrong) ∙ no_number (refused 12) (refused 1) _ _ _ _ _ (sym c.read_number-2.ensures ∙ c.in_default-read_number.is);
+      said = goes 12 kind_wrong c.args.s.now 0 (after_kind c.args.s.now) (kind-passed (goal.at.returns-in_default-read_number c).Else-kind_wrong) ∙ no_number (refused 12) (refused 1) (λ (v : ℕ). not (size_wrong c.in-Number.kind v)) c.args.s.now c.in-Number.second (after_size c.args.s.now c.in-Number.kind) _ (sym c.read_number-2.ensures ∙ c.in_default-read_number.is);
       legal = tt;
     }
 
@@ -84,7 +77,7 @@ unfolding head_from
 returns-in_default-new c =
     let right = kind-passed (goal.at.returns-in_default-new c).Else-kind_wrong in
     let wrong = none_made _ _ right.right c.in_default-new.field-0 (sym (ap (changed no_chart) c.in_default-new.is) ∙ c.new.ensures) in record {
-      said = goes 12 _ _ _ _ right ∙ out-of-place (refused 12) (refused 1) _ _ _ _ _ _ (sym c.read_number-2.ensures ∙ c.in-Number-read_number.is) (ap not wrong);
+      said = goes 12 kind_wrong c.args.s.now 0 (after_kind c.args.s.now) right ∙ out-of-place (refused 12) (refused 1) (λ (v : ℕ). not (size_wrong c.in-Number.kind v)) c.args.s.now c.in-Number.second (after_size c.args.s.now c.in-Number.kind) _ _ (sym c.read_number-2.ensures ∙ c.in-Number-read_number.is) (ap not wrong);
       legal = tt;
     }
 
@@ -92,8 +85,8 @@ pub returns-in_default-read_number-2 : goal.returns-in_default-read_number-2
 unfolding head_from
 returns-in_default-read_number-2 c =
     record {
-      said = goes 12 _ _ _ _ (kind-passed (goal.at.returns-in_default-read_number-2 c).Else-kind_wrong) ∙ goes 1 _ _ _ _ (size-passed (goal.at.returns-in_default-read_number-2 c).In-Done)
-          ∙ no_number (refused 12) (refused 4) _ _ _ _ _ (sym c.read_number-3.ensures ∙ c.in_default-read_number-2.is);
+      said = goes 12 kind_wrong c.args.s.now 0 (after_kind c.args.s.now) (kind-passed (goal.at.returns-in_default-read_number-2 c).Else-kind_wrong) ∙ goes 1 (size_wrong c.in-Number.kind) c.args.s.now c.in-Number.second (after_size c.args.s.now c.in-Number.kind) (size-passed (goal.at.returns-in_default-read_number-2 c).In-Done)
+          ∙ no_number (refused 12) (refused 4) (λ (v : ℕ). not (too_large v)) c.args.s.now c.in-Number-read_number.third (after_set c.args.s.now c.in-Number.kind c.in-Number-read_number.size) _ (sym c.read_number-3.ensures ∙ c.in_default-read_number-2.is);
       legal = tt;
     }
 
@@ -101,8 +94,8 @@ pub returns-then-set : goal.returns-then-set
 unfolding head_from
 returns-then-set c =
     record {
-      said = goes 12 _ _ _ _ (kind-passed (goal.at.returns-then-set c).Else-kind_wrong) ∙ goes 1 _ _ _ _ (size-passed (goal.at.returns-then-set c).In-Done)
-          ∙ out-of-place (refused 12) (refused 4) _ _ _ _ _ _ (sym c.read_number-3.ensures ∙ c.in-Number-read_number-2.is) (ap not (lt-ltb _ _ c.if-set.true));
+      said = goes 12 kind_wrong c.args.s.now 0 (after_kind c.args.s.now) (kind-passed (goal.at.returns-then-set c).Else-kind_wrong) ∙ goes 1 (size_wrong c.in-Number.kind) c.args.s.now c.in-Number.second (after_size c.args.s.now c.in-Number.kind) (size-passed (goal.at.returns-then-set c).In-Done)
+          ∙ out-of-place (refused 12) (refused 4) (λ (v : ℕ). not (too_large v)) c.args.s.now c.in-Number-read_number.third (after_set c.args.s.now c.in-Number.kind c.in-Number-read_number.size) _ _ (sym c.read_number-3.ensures ∙ c.in-Number-read_number-2.is) (ap not (lt-ltb _ _ c.if-set.true));
       legal = tt;
     }
 
@@ -110,8 +103,8 @@ pub returns-in_default-read_number-3 : goal.returns-in_default-read_number-3
 unfolding head_from
 returns-in_default-read_number-3 c =
     record {
-      said = goes 12 _ _ _ _ (kind-passed (goal.at.returns-in_default-read_number-3 c).Else-kind_wrong) ∙ goes 1 _ _ _ _ (size-passed (goal.at.returns-in_default-read_number-3 c).In-Done) ∙ goes 4 _ _ _ _ (set-passed (goal.at.returns-in_default-read_number-3 c).Else-set)
-          ∙ no_number (refused 12) (refused 5) _ _ _ _ _ (sym c.read_number-4.ensures ∙ c.in_default-read_number-3.is);
+      said = goes 12 kind_wrong c.args.s.now 0 (after_kind c.args.s.now) (kind-passed (goal.at.returns-in_default-read_number-3 c).Else-kind_wrong) ∙ goes 1 (size_wrong c.in-Number.kind) c.args.s.now c.in-Number.second (after_size c.args.s.now c.in-Number.kind) (size-passed (goal.at.returns-in_default-read_number-3 c).In-Done) ∙ goes 4 too_large c.args.s.now c.in-Number-read_number.third (after_set c.args.s.now c.in-Number.kind c.in-Number-read_number.size) (set-passed (goal.at.returns-in_default-read_number-3 c).Else-set)
+          ∙ no_number (refused 12) (refused 5) (λ (v : ℕ). not (count_wrong c.in-Number-read_number.size v)) c.args.s.now c.in-Number-read_number-2.fourth (after_count c.args.s.now c.in-Number.kind c.in-Number-read_number.size c.in-Number-read_number-2.set) _ (sym c.read_number-4.ensures ∙ c.in_default-read_number-3.is);
       legal = tt;
     }
 
@@ -123,8 +116,8 @@ pub returns-then-count_wrong : goal.returns-then-count_wrong
 unfolding head_from
 returns-then-count_wrong c =
     let wrong = ap not (told c.count_wrong.ensures c.if-count_wrong.true) in record {
-      said = goes 12 _ _ _ _ (kind-passed (goal.at.returns-then-count_wrong c).Else-kind_wrong) ∙ goes 1 _ _ _ _ (size-passed (goal.at.returns-then-count_wrong c).In-Done) ∙ goes 4 _ _ _ _ (set-passed (goal.at.returns-then-count_wrong c).Else-set)
-          ∙ out-of-place (refused 12) (refused 5) _ _ _ _ _ _ (sym c.read_number-4.ensures ∙ c.in-Number-read_number-3.is) wrong;
+      said = goes 12 kind_wrong c.args.s.now 0 (after_kind c.args.s.now) (kind-passed (goal.at.returns-then-count_wrong c).Else-kind_wrong) ∙ goes 1 (size_wrong c.in-Number.kind) c.args.s.now c.in-Number.second (after_size c.args.s.now c.in-Number.kind) (size-passed (goal.at.returns-then-count_wrong c).In-Done) ∙ goes 4 too_large c.args.s.now c.in-Number-read_number.third (after_set c.args.s.now c.in-Number.kind c.in-Number-read_number.size) (set-passed (goal.at.returns-then-count_wrong c).Else-set)
+          ∙ out-of-place (refused 12) (refused 5) (λ (v : ℕ). not (count_wrong c.in-Number-read_number.size v)) c.args.s.now c.in-Number-read_number-2.fourth (after_count c.args.s.now c.in-Number.kind c.in-Number-read_number.size c.in-Number-read_number-2.set) _ _ (sym c.read_number-4.ensures ∙ c.in-Number-read_number-3.is) wrong;
       legal = tt;
     }
 
@@ -134,8 +127,8 @@ returns c =
     let is = sym (made (goal.at.returns c).In-Done).1 in
     let right =
     legal (c.in-Number.kind) (c.in-Number-read_number.size) (c.in-Number-read_number-2.set) (c.in-Number-read_number-3.count) (kind-passed (goal.at.returns c).Else-kind_wrong).right (size-passed (goal.at.returns c).In-Done).right
-    c.if-set.left (count-passed c).right in record {
-      said = goes 12 _ _ _ _ (kind-passed (goal.at.returns c).Else-kind_wrong) ∙ goes 1 _ _ _ _ (size-passed (goal.at.returns c).In-Done) ∙ goes 4 _ _ _ _ (set-passed (goal.at.returns c).Else-set)
-          ∙ goes 5 _ _ _ _ (count-passed c) ∙ ap (λ (chart : Chart). after_head (c.args.s.now) (Names (held (goal.at.returns c).Else-set c chart) (c.in-Number-read_number-3.next))) is;
-      legal = transport (λ i. Legal (held (goal.at.returns c).Else-set c (is i))) right;
+    c.if-set.false (count-passed c).right in record {
+      said = goes 12 kind_wrong c.args.s.now 0 (after_kind c.args.s.now) (kind-passed (goal.at.returns c).Else-kind_wrong) ∙ goes 1 (size_wrong c.in-Number.kind) c.args.s.now c.in-Number.second (after_size c.args.s.now c.in-Number.kind) (size-passed (goal.at.returns c).In-Done) ∙ goes 4 too_large c.args.s.now c.in-Number-read_number.third (after_set c.args.s.now c.in-Number.kind c.in-Number-read_number.size) (set-passed (goal.at.returns c).Else-set)
+          ∙ goes 5 (count_wrong c.in-Number-read_number.size) c.args.s.now c.in-Number-read_number-2.fourth (after_count c.args.s.now c.in-Number.kind c.in-Number-read_number.size c.in-Number-read_number-2.set) (count-passed c) ∙ ap (λ (chart : Chart). after_head (c.args.s.now) (Names ((λ (chart : Chart). with_count (with_set chart (record { mask = c.in-Number-read_number-2.set })) (c.in-Number-read_number-3.count)) chart) (c.in-Number-read_number-3.next))) is;
+      legal = transport (λ i. Legal ((λ (chart : Chart). with_count (with_set chart (record { mask = c.in-Number-read_number-2.set })) (c.in-Number-read_number-3.count)) (is i))) right;
     }

@@ -10,7 +10,7 @@ use Rattle.reports.proofs.flow.read_values.Goals as goal
 
 pub overflow_mul-n : goal.overflow_mul-n
 overflow_mul-n c =
-    omega (arith, (own c.args.chart c.requires.1.own).all)
+    omega (arith, (own c.args.chart c.requires.legal.own).all)
 
 pub loop-i-init : goal.loop-i-init
 loop-i-init c =
@@ -32,7 +32,7 @@ offset_bounds-values-i c =
 pub bounds-values-i : goal.bounds-values-i
 bounds-values-i c =
     let pre = c.requires in
-    omega (arith, c.loop-i.invariant.same, c.loop-i-test.true, pre.0)
+    omega (arith, c.loop-i.invariant.same, c.loop-i-test.true, pre.chart_in_bounds)
 
 pub overflow_add-i : goal.overflow_add-i
 overflow_add-i c =
@@ -48,7 +48,7 @@ loop-i-preserved c =
     let args = c.args in
     rw c.of_bits.ensures
     (reads-goes-on args.s.now args.chart (size args.chart) args.from args.values.now c.loop-i.values c.loop-i.at c.loop-i.i c.loop-i.invariant
-    c.loop-i-test.true _ _ (sym c.read_number.ensures ∙ c.in-Number.is) pre.0)
+    c.loop-i-test.true _ _ (sym c.read_number.ensures ∙ c.in-Number.is) pre.chart_in_bounds)
 
 pub returns-then-at-s : goal.returns-then-at-s
 returns-then-at-s c =
@@ -64,5 +64,5 @@ returns c =
     let args = c.args in record {
       said = reads-ends args.s.now args.chart (size args.chart) args.from args.values.now c.loop-i.values c.loop-i.at c.loop-i.i c.loop-i.invariant
           c.loop-i-test.false c.if-at-s.false;
-      legal = pre.1;
+      legal = pre.legal;
     }
