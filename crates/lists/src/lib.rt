@@ -2,6 +2,7 @@
 // they have it, holding the one to the other case by case, and saying why bytes are no list.
 #![tactic(auto)]
 
+mod input;
 mod ours;
 mod outcome;
 mod run;
@@ -15,6 +16,7 @@ ghost use Rattle.lists.specs.Reading.{bytes_from, floats_from, numbers_from, ope
 ghost use Rattle.lists.specs.Taken.{AtMost, Within};
 
 use groups::Reading;
+pub use input::read_input;
 pub use ours::{bits, floats_are, marks_are, put_floats, put_marks, put_number};
 pub use outcome::{Outcome, Parting, compare, hold};
 pub use run::{Replayed, Run, begin, end, past};

@@ -1,8 +1,9 @@
 // What a case comes to: holding what is ours to what is right, and telling where they part.
-ghost use Rattle.std.specs.Prelude.{◌≡◌};
+ghost use Rattle.std.specs.Prelude.{◌≡◌, IfOk};
 ghost use Rattle.lists.specs.Outcomes.{Compared, OnlyIf, stretch, differs};
 
 use crate::words::say;
+use std::io;
 
 /// A place where two rows of bytes part, with what stands there.
 #[derive(Clone, Copy)]
@@ -74,32 +75,33 @@ pub fn hold(ours: &[u8], list: &[u8], from: usize, to: usize) -> Outcome
     compare(ours, &list[from..to])
 }
 
-/// Whether a case does not come to what it ought to; writes its line where that is so.
-pub fn tell(k: u64, outcome: Outcome) -> bool
-    ensures { result ≡ differs outcome }
+/// Whether a case does not come to what it ought to; writes its line where that is so. Fails only where that cannot be written.
+pub fn tell<P: Print>(rt: &P, k: u64, outcome: Outcome) -> io::Result<bool>
+    ensures { IfOk result (λ told. told ≡ differs outcome) }
 {
     match outcome {
-        Outcome::Same => return false,
+        Outcome::Same => return Ok(false),
         Outcome::Byte(p) => {
-            say(b"case ", k, b": byte ");
-            say(b"", p.at as u64, b" of the answer: stored ");
-            say(b"", p.right, b", ours ");
-            say(b"", p.ours, b"\n");
+            say(rt, b"case ", k, b": byte ")?;
+            say(rt, b"", p.at as u64, b" of the answer: stored ")?;
+            say(rt, b"", p.right, b", ours ")?;
+            say(rt, b"", p.ours, b"\n")?;
         }
         Outcome::Length(n) => {
-            say(b"case ", k, b": the answer's length, ours ");
-            say(b"", n as u64, b"\n");
+            say(rt, b"case ", k, b": the answer's length, ours ")?;
+            say(rt, b"", n as u64, b"\n")?;
         }
         Outcome::Refused(number) => {
-            say(b"case ", k, b": refused by ");
-            say(b"", number as u64, b"\n");
+            say(rt, b"case ", k, b": refused by ")?;
+            say(rt, b"", number as u64, b"\n")?;
         }
-        Outcome::Taken => say(b"case ", k, b": not refused as it ought to be\n"),
+        Outcome::Taken => say(rt, b"case ", k, b": not refused as it ought to be\n")?,
         Outcome::Overrun => say(
+            rt,
             b"case ",
             k,
             b": an entry past the answer is not as it ought to be\n",
-        ),
+        )?,
     }
-    true
+    Ok(true)
 }
