@@ -10,8 +10,8 @@ mod chart;
 mod evaluating;
 mod reading;
 
-use libc::STDIN_FILENO;
 use lists::{Item, Replayed, Small};
+use std::io;
 
 // The tags of its cases: adding to a P and to a U chart, evaluating a P and a U chart.
 const P_ADDING: u16 = 6;
@@ -36,17 +36,17 @@ fn replay_case(list: &[u8], at: usize) -> Replayed {
 }
 
 // Replays every case of a list.
-fn replay(list: &[u8]) {
-    let mut run = lists::begin(list);
+fn replay<P: Print>(rt: &P, list: &[u8]) -> io::Result<()> {
+    let mut run = lists::begin(rt, list)?;
     while run.k < run.cases {
-        run = lists::past(run, replay_case(list, run.at));
+        run = lists::past(rt, run, replay_case(list, run.at))?;
     }
-    lists::end(list, run);
+    lists::end(rt, list, run)
 }
 
-fn main() {
+fn main(rt: HostRuntime) -> io::Result<()> {
     // one byte more than a list may have, so that a longer one is seen
     let mut bytes = [0u8; 400_001];
-    let n = io::read_full(STDIN_FILENO, &mut bytes);
-    replay(&bytes[0..n]);
+    let n = lists::read_input(&rt, &mut bytes)?;
+    replay(&rt, &bytes[0..n])
 }

@@ -18,10 +18,10 @@ ghost use Rattle.replay_charts.specs.Held.{Held, refused_alike, rest_is};
 use answers::Answers;
 use charts::{Changed, Chart};
 use head::{Head, Headed};
-use libc::STDIN_FILENO;
 use lists::{Fault, Item, Number, Outcome, Passed, Replayed, Small};
 use rules::SAME_WIDTHS;
 use sets::RuleSet;
+use std::io;
 
 // The tags of a chart case, of one with stops and of one in a width mode.
 const CHART_CASE: u16 = 2;
@@ -487,19 +487,19 @@ fn replay_case(list: &[u8], at: usize, values: &mut [f64]) -> Replayed {
 }
 
 // Replays every case of a list. There is room for the values of one of them.
-fn replay(list: &[u8], values: &mut [f64]) {
-    let mut run = lists::begin(list);
+fn replay<P: Print>(rt: &P, list: &[u8], values: &mut [f64]) -> io::Result<()> {
+    let mut run = lists::begin(rt, list)?;
     while run.k < run.cases {
-        run = lists::past(run, replay_case(list, run.at, values));
+        run = lists::past(rt, run, replay_case(list, run.at, values))?;
     }
-    lists::end(list, run);
+    lists::end(rt, list, run)
 }
 
-fn main() {
+fn main(rt: HostRuntime) -> io::Result<()> {
     // one byte more than a list may have, so that a longer one is seen
     let mut bytes = [0u8; 400_001];
     // 4,096 samples of 25
     let mut values = [0.0f64; 102_400];
-    let n = io::read_full(STDIN_FILENO, &mut bytes);
-    replay(&bytes[0..n], &mut values);
+    let n = lists::read_input(&rt, &mut bytes)?;
+    replay(&rt, &bytes[0..n], &mut values)
 }

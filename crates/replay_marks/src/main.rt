@@ -13,10 +13,10 @@ ghost use Rattle.rules.specs.Terms.{under};
 ghost use Rattle.rules.specs.Marking.{answer_of};
 ghost use Rattle.replay_marks.specs.Held.{Held, SomeHeld, written};
 
-use libc::STDIN_FILENO;
 use lists::{Item, Number, Outcome, Passed, Replayed, Small};
 use rules::{Limits, SAME_WIDTHS};
 use sets::RuleSet;
+use std::io;
 
 // The tags of a marks case, of one with stops and of one in a width mode.
 const MARKS_CASE: u16 = 1;
@@ -249,17 +249,17 @@ fn replay_case(list: &[u8], at: usize) -> Replayed {
 }
 
 // Replays every case of a list.
-fn replay(list: &[u8]) {
-    let mut run = lists::begin(list);
+fn replay<P: Print>(rt: &P, list: &[u8]) -> io::Result<()> {
+    let mut run = lists::begin(rt, list)?;
     while run.k < run.cases {
-        run = lists::past(run, replay_case(list, run.at));
+        run = lists::past(rt, run, replay_case(list, run.at))?;
     }
-    lists::end(list, run);
+    lists::end(rt, list, run)
 }
 
-fn main() {
+fn main(rt: HostRuntime) -> io::Result<()> {
     // one byte more than a list may have, so that a longer one is seen
     let mut bytes = [0u8; 400_001];
-    let n = io::read_full(STDIN_FILENO, &mut bytes);
-    replay(&bytes[0..n]);
+    let n = lists::read_input(&rt, &mut bytes)?;
+    replay(&rt, &bytes[0..n])
 }

@@ -7,9 +7,9 @@
 ghost use Rattle.std.specs.Prelude.{◌≡◌, ◌≤◌, length};
 ghost use Rattle.lists.specs.Outcomes.{OnlyIf};
 
-use libc::STDIN_FILENO;
 use lists::{Bytes, Item, Outcome, Replayed, Small};
 use reports::Reported;
+use std::io;
 
 // The tag of a report case.
 const REPORT_CASE: u16 = 3;
@@ -40,7 +40,7 @@ fn judge(flow: &[u8], room: &mut [u8], right: &[u8], n: usize) -> Outcome
 fn judge_against(flow: &[u8], text: &[u8], room: &mut [u8], right: &mut [u8]) -> Outcome
     requires { length text.now ≤ length right.old }
 {
-    bytes::copy(text, right);
+    right[0..text.len()].copy_from_slice(text);
     judge(flow, room, right, text.len())
 }
 
@@ -105,14 +105,14 @@ fn replay_case(list: &[u8], at: usize) -> Replayed
 }
 
 // Replays every case of a list.
-fn replay(list: &[u8])
+fn replay<P: Print>(rt: &P, list: &[u8]) -> io::Result<()>
     requires { length list.now ≤ 400001 }
 {
-    let mut run = lists::begin(list);
+    let mut run = lists::begin(rt, list)?;
     while run.k < run.cases {
-        run = lists::past(run, replay_case(list, run.at));
+        run = lists::past(rt, run, replay_case(list, run.at))?;
     }
-    lists::end(list, run);
+    lists::end(rt, list, run)
 }
 
 // Room for a list, and one byte more, so that a longer one is seen.
@@ -122,8 +122,8 @@ fn list_room() -> [u8; 400_001]
     [0; 400_001]
 }
 
-fn main() {
+fn main(rt: HostRuntime) -> io::Result<()> {
     let mut bytes = list_room();
-    let n = io::read_full(STDIN_FILENO, &mut bytes);
-    replay(&bytes[0..n]);
+    let n = lists::read_input(&rt, &mut bytes)?;
+    replay(&rt, &bytes[0..n])
 }

@@ -1,12 +1,6 @@
--- `replay` is safe and ends: each case leaves fewer. Assumes nothing.
-use Prim.Native.Nat.{◌-◌}
-use borrow.Author.Rules.{rules}
+-- How many cases are left falls with each.
+use Rattle.std.proofs.Common.{◌-◌}
 use Rattle.replay_attributes.proofs.replay.Given as goal
 
-abbrev pub invariant-loop-run : goal.invariant-loop-run
-invariant-loop-run l =
-    Unit {0}
-
 abbrev pub decreases-loop-run : goal.decreases-loop-run
-decreases-loop-run l =
-    l.run.cases - l.run.k
+decreases-loop-run g l = l.run.cases - l.run.k

@@ -5,4 +5,4 @@ use Rattle.replay_marks.proofs.judge_lane.Goals as goal
 
 pub returns : goal.returns
 returns c =
-    only_then (λ held. record { number = c.mark_number.result; held = held }) c.hold.result c.hold.ensures
+    only_then (λ held. record { number = c.mark-number.result; held = held }) c.hold.result c.hold.ensures
