@@ -243,15 +243,7 @@ fn write_in(values: &[u8], limits: Limits, set: u32, vs: &mut [f64], sheet: &mut
 ///
 /// The value 28.5 (`00 00 00 00 00 80 3c 40`) under the limits 28.0, 25.0, 22.0 and the set 1 gives 0 and leaves `01 00` at
 /// the front of `marks`: it lies beyond a limit. With its last byte missing it is 2.
-#[unsafe(no_mangle)]
-pub extern "C" fn dramulenz_mark(
-    values: &[u8],
-    ucl: f64,
-    cl: f64,
-    lcl: f64,
-    set: u32,
-    marks: &mut [u8],
-) -> u64
+pub fn dramulenz_mark(values: &[u8], ucl: f64, cl: f64, lcl: f64, set: u32, marks: &mut [u8]) -> u64
     ensures answer { result ≡ mark_number (terms_of ucl cl lcl) set values.now marks.old }
     ensures marks { marks.new ≡ mark_room (terms_of ucl cl lcl) set values.now marks.old }
 {
@@ -290,15 +282,7 @@ pub extern "C" fn dramulenz_mark(
 /// # Example
 ///
 /// With no values and the set 1, `00 01 00` gives 0, `00 01` gives `0x209` (a fault at place 2), and `00 00 00` gives 10.
-#[unsafe(no_mangle)]
-pub extern "C" fn dramulenz_check(
-    values: &[u8],
-    ucl: f64,
-    cl: f64,
-    lcl: f64,
-    set: u32,
-    sheet: &[u8],
-) -> u64
+pub fn dramulenz_check(values: &[u8], ucl: f64, cl: f64, lcl: f64, set: u32, sheet: &[u8]) -> u64
     ensures { result ≡ check_number (terms_of ucl cl lcl) set values.now sheet.now }
 {
     let limits = Limits { ucl, cl, lcl };
@@ -324,8 +308,7 @@ pub extern "C" fn dramulenz_check(
 /// # Example
 ///
 /// With no values and the set 1, `00 01 00` is written and `0x300` is given.
-#[unsafe(no_mangle)]
-pub extern "C" fn dramulenz_write(
+pub fn dramulenz_write(
     values: &[u8],
     ucl: f64,
     cl: f64,
@@ -354,8 +337,7 @@ pub extern "C" fn dramulenz_write(
 /// # Example
 ///
 /// `dramulenz_root(4.0)` is 2.0, `dramulenz_root(-4.0)` is +0.0.
-#[unsafe(no_mangle)]
-pub extern "C" fn dramulenz_root(x: f64) -> f64
+pub fn dramulenz_root(x: f64) -> f64
     ensures { result ≡ root_number x }
 {
     match root::root(x) {
