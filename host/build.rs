@@ -27,7 +27,7 @@ fn main() {
     let library = folder.join("libtwin.a");
     println!("cargo:rerun-if-changed={}", library.display());
     if !library.is_file() {
-        fail(&format!("there is no {}: run `rt staticlib twin`", library.display()));
+        fail(&format!("there is no {}: run `rt lib` in crates/twin_c, whose libtwin_c.a is this file", library.display()));
     }
     println!("cargo:rustc-link-search=native={}", folder.display());
     println!("cargo:rustc-link-lib=static=twin");

@@ -1,6 +1,6 @@
 /*
  * Dramulenz for C and C++: marking a series by the nine run tests, writing and checking mark sheets, and the nearest
- * square root. Link with libtwin.a, which `rt staticlib twin` proves and writes to target/staticlib (x86-64 Linux).
+ * square root. Link with libtwin.a, which `rt lib` in crates/twin_c proves and writes there as out/libtwin_c.a (x86-64 Linux).
  *
  * Bytes. `values` has eight bytes a value, the bits of a double with the low byte first; any eight bytes are a value,
  * and each NaN pattern is a NaN. Marks are two bytes a point, low byte first, with test b in bit b:

@@ -12,7 +12,10 @@ use Rattle.evaluating.specs.declared.Estimated.TheVariants as estimating
 use Rattle.evaluating.specs.declared.Figure.{Figure}
 use Rattle.evaluating.specs.declared.Figure.TheVariants as figuring
 use Rattle.evaluating.specs.Series.{lengths}
+use Rattle.evaluating.specs.declared.Limited.{Limited}
+use Rattle.evaluating.specs.declared.Limited.TheVariants as limiting
 use Rattle.evaluating.specs.Evaluating.{evaluated}
+use Rattle.evaluating.specs.Centres.{limited}
 use Rattle.evaluating.specs.Sigma.{figured, estimated}
 
 pub lengths-one : (a b : Lengths) → lengths a ≡ lengths b → a ≡ b
@@ -40,3 +43,9 @@ figured-one (figuring.Done x) (figuring.Done y) e = ap figuring.Done (ap (λ p. 
 figured-one (figuring.Done x) (figuring.Refused w) e = absurd (number-some w (sym (ap (λ p. p.0) e)))
 figured-one (figuring.Refused v) (figuring.Done y) e = absurd (number-some v (ap (λ p. p.0) e))
 figured-one (figuring.Refused v) (figuring.Refused w) e = ap figuring.Refused (number-one v w (ap (λ p. p.0) e))
+
+pub limited-one : (a b : Limited) → limited a ≡ limited b → a ≡ b
+limited-one (limiting.Done m d) (limiting.Done n s) e = ap₂ limiting.Done (ap (λ p. p.1) e) (ap (λ p. p.2) e)
+limited-one (limiting.Done m d) (limiting.Refused w) e = absurd (number-some w (sym (ap (λ p. p.0) e)))
+limited-one (limiting.Refused v) (limiting.Done n s) e = absurd (number-some v (ap (λ p. p.0) e))
+limited-one (limiting.Refused v) (limiting.Refused w) e = ap limiting.Refused (number-one v w (ap (λ p. p.0) e))

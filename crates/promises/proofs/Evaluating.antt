@@ -10,7 +10,7 @@ use Rattle.evaluating.specs.declared.Evaluated.{Evaluated}
 use Rattle.evaluating.specs.Asked.{asked, interrupted, in_mode}
 use Rattle.evaluating.specs.Series.{series_of}
 use Rattle.evaluating.specs.Evaluating.{Answer, series_marks}
-use Rattle.evaluating.proofs.Answers.{lengths-one, evaluated-one, estimated-one, figured-one}
+use Rattle.evaluating.proofs.Answers.{lengths-one, limited-one, evaluated-one, estimated-one, figured-one}
 use Rattle.evaluating.proofs.Lengths.number.Reads as lengths-number
 use Rattle.evaluating.proofs.Lengths.number.Kinds as lengths-number-kinds
 use Rattle.evaluating.proofs.Evaluated.number.Reads as evaluated-number
@@ -21,6 +21,12 @@ use Rattle.evaluating.proofs.Figure.number.Reads as figure-number
 use Rattle.evaluating.proofs.Figure.number.Kinds as figure-number-kinds
 use Rattle.evaluating.proofs.Evaluated.none_stands.Reads as none-stands
 use Rattle.evaluating.proofs.Evaluated.none_stands.Kinds as none-stands-kinds
+use Rattle.evaluating.proofs.Limited.number.Reads as limited-number
+use Rattle.evaluating.proofs.Limited.number.Kinds as limited-number-kinds
+use Rattle.evaluating.proofs.limits_about.Reads as limits-about
+use Rattle.evaluating.proofs.limits_about.Kinds as limits-about-kinds
+use Rattle.evaluating.proofs.clear.Reads as clear
+use Rattle.evaluating.proofs.clear.Kinds as clear-kinds
 use Rattle.evaluating.proofs.points.Reads as points
 use Rattle.evaluating.proofs.points.Kinds as points-kinds
 use Rattle.evaluating.proofs.evaluate.Reads as evaluate
@@ -73,6 +79,32 @@ evaluate-one κs a x y s t p q =
     let main_marks = p.1.1.1.0 ∙ ap (λ (n : ℕ). lent_after n 0 (series_marks question 0) a.1.1.1.1.1.1.0.now) number ∙ sym q.1.1.1.0 in
     let dispersion_marks = p.1.1.1.1 ∙ ap (λ (n : ℕ). lent_after n 0 (series_marks question 1) a.1.1.1.1.1.1.1.0.now) number ∙ sym q.1.1.1.1 in
     cc (answer, main, dispersion, main_marks, dispersion_marks)
+
+limited-number-one : Coincide 0 limited-number-kinds.ps limited-number-kinds.r limited-number.Post (λ κs x s. x)
+limited-number-one κs a x y s t p q = p ∙ sym q
+
+limits-about-one : Coincide 0 limits-about-kinds.ps limits-about-kinds.r limits-about.Post (λ κs x s. x)
+limits-about-one κs a x y s t p q = limited-one x y (p ∙ sym q)
+
+-- what clearing leaves in the four slices
+pub record Cleared : Type 0 where
+  pub main : List Float
+  pub dispersion : List Float
+  pub main_marks : List ℕ
+  pub dispersion_marks : List ℕ
+
+clear-one : Coincide 4 clear-kinds.ps clear-kinds.r clear.Post {Seen = Cleared} (λ κs x s. record {
+  main = s.0.now;
+  dispersion = s.1.0.now;
+  main_marks = s.1.1.0.now;
+  dispersion_marks = s.1.1.1.0.now;
+})
+clear-one κs a x y s t p q =
+    let main = p.0 ∙ sym q.0 in
+    let dispersion = p.1.0 ∙ sym q.1.0 in
+    let main_marks = p.1.1.0 ∙ sym q.1.1.0 in
+    let dispersion_marks = p.1.1.1 ∙ sym q.1.1.1 in
+    cc (main, dispersion, main_marks, dispersion_marks)
 
 points-one : Coincide 0 points-kinds.ps points-kinds.r points.Post (λ κs x s. x)
 points-one κs a x y s t p q = lengths-one x y (p ∙ sym q)

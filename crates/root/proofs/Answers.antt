@@ -1,7 +1,7 @@
 -- What is allowed at each kind of bit pattern. Assumes nothing.
 use Rattle.std.proofs.Common.{◌≡◌, ℕ, zero, suc, ◌+◌, ◌*◌, ◌/◌, ◌%◌, ◌^◌, ◌<◌, ◌≤◌, Bool, true, false, cond, not, T, eqb, sym, refl, ap, subst, ⊎_elim, mul-pos, arith, pow_pos}
 use mathlib.Core.Bool.{false≢true}
-use lib.Ieee.{Float, nan, inf, fin, binary64, odd, up, of_bits, of_fields, is_nan, ne}
+use lib.Ieee.{Float, nan, inf, fin, binary64, odd, of_bits, of_fields, is_nan, ne}
 use lib.Ieee.Exact.{HasValue, odd_sign}
 use lib.Ieee.Positive.{positive}
 use Rattle.floats.proofs.Nan.{is-nan}

@@ -1,6 +1,5 @@
 -- `arith::deviation_of` meets its contract, by what each step says. Assumes nothing.
 use Rattle.arith.specs.Arith.{deviation_of}
-use Rattle.std.proofs.Common.{rules}
 use Rattle.arith.proofs.deviation_of.Goals as goal
 
 pub returns : goal.returns

@@ -1,5 +1,5 @@
 -- `arith::first` meets its contract, with a value and with none. Assumes nothing.
-use Rattle.std.proofs.Common.{◌≡◌, List, [], ◌∷◌, length, get_or, refl, arith, rules}
+use Rattle.std.proofs.Common.{◌≡◌, List, [], ◌∷◌, length, get_or, refl, arith}
 use lib.Ieee.{Float, nan, div, of_bits}
 use Rattle.arith.proofs.first.Goals as goal
 

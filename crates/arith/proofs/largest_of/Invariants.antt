@@ -1,9 +1,7 @@
 -- `arith::largest_of` meets its contract: what is left to look at, from the largest so far, gives the largest of all. Assumes nothing.
-use Rattle.std.proofs.Common.{◌≡◌, ◌-◌, length, drop, arith, rules}
+use Rattle.std.proofs.Common.{◌≡◌, ◌-◌, length, drop}
 use mathlib.Core.List.{foldl}
-use lib.Ieee.{nan}
 use Rattle.arith.specs.Arith.{larger, largest_of}
-use Rattle.arith.proofs.Folds.{fold_more, fold_done}
 use Rattle.arith.proofs.largest_of.Given as goal
 
 abbrev pub invariant-loop-i : goal.invariant-loop-i

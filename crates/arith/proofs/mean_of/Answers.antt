@@ -1,5 +1,5 @@
 -- `arith::mean_of` meets its contract. Assumes nothing.
-use Rattle.std.proofs.Common.{ap₂, rules}
+use Rattle.std.proofs.Common.{ap₂}
 use lib.Ieee.{binary64, div}
 use Rattle.arith.specs.Arith.{mean_of}
 use Rattle.arith.proofs.mean_of.Goals as goal

@@ -1,6 +1,5 @@
 -- `arith::moving_range` meets its contract. Assumes nothing.
 use Rattle.arith.specs.Arith.{moving_of}
-use Rattle.std.proofs.Common.{rules}
 use Rattle.arith.proofs.moving_range.Goals as goal
 
 pub returns : goal.returns

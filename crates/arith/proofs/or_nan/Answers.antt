@@ -1,5 +1,5 @@
 -- `arith::or_nan` meets its contract: each answer of the root in its turn. Assumes nothing.
-use Rattle.std.proofs.Common.{sym, ap, rules}
+use Rattle.std.proofs.Common.{sym, ap}
 use lib.Ieee.{div, of_bits}
 use Rattle.arith.specs.Arith.{or_nan}
 use Rattle.arith.proofs.or_nan.Goals as goal

@@ -1,8 +1,7 @@
 -- `arith::range_of` meets its contract: the largest and the smallest are two folds in one loop. Assumes nothing.
-use Rattle.std.proofs.Common.{◌≡◌, ◌-◌, length, drop, ap₂, arith, rules}
-use mathlib.Core.List.{foldl}
+use Rattle.std.proofs.Common.{ap₂, arith}
 use lib.Ieee.{nan, sub, binary64}
-use Rattle.arith.specs.Arith.{larger, smaller, largest_of, smallest_of, range_of}
+use Rattle.arith.specs.Arith.{larger, smaller, range_of}
 use Rattle.arith.proofs.Folds.{fold_more, fold_done}
 use Rattle.arith.proofs.range_of.Goals as goal
 

@@ -1,9 +1,7 @@
 -- `arith::smallest_of` meets its contract: what is left to look at, from the smallest so far, gives the smallest of all. Assumes nothing.
-use Rattle.std.proofs.Common.{◌≡◌, ◌-◌, length, drop, arith, rules}
+use Rattle.std.proofs.Common.{◌≡◌, ◌-◌, length, drop}
 use mathlib.Core.List.{foldl}
-use lib.Ieee.{nan}
 use Rattle.arith.specs.Arith.{smaller, smallest_of}
-use Rattle.arith.proofs.Folds.{fold_more, fold_done}
 use Rattle.arith.proofs.smallest_of.Given as goal
 
 abbrev pub invariant-loop-i : goal.invariant-loop-i

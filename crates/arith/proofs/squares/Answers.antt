@@ -1,8 +1,7 @@
 -- `arith::squares` meets its contract, as `arith::sum` does. Assumes nothing.
-use Rattle.std.proofs.Common.{◌≡◌, ◌-◌, length, drop, refl, arith, rules}
-use mathlib.Core.List.{foldl}
+use Rattle.std.proofs.Common.{refl, arith}
 use lib.Ieee.{nan}
-use Rattle.arith.specs.Arith.{square_added, squares_of}
+use Rattle.arith.specs.Arith.{square_added}
 use Rattle.arith.proofs.Folds.{fold_more, fold_done}
 use Rattle.arith.proofs.squares.Goals as goal
 

@@ -1,9 +1,7 @@
 -- `arith::squares` meets its contract, as `arith::sum` does. Assumes nothing.
-use Rattle.std.proofs.Common.{◌≡◌, ◌-◌, length, drop, refl, arith, rules}
+use Rattle.std.proofs.Common.{◌≡◌, ◌-◌, length, drop}
 use mathlib.Core.List.{foldl}
-use lib.Ieee.{nan}
 use Rattle.arith.specs.Arith.{square_added, squares_of}
-use Rattle.arith.proofs.Folds.{fold_more, fold_done}
 use Rattle.arith.proofs.squares.Given as goal
 
 abbrev pub invariant-loop-i : goal.invariant-loop-i

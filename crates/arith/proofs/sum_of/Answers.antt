@@ -1,8 +1,6 @@
 -- `arith::sum_of` meets its contract: what is left to add, from the sum so far, gives the whole. Assumes nothing.
-use Rattle.std.proofs.Common.{◌≡◌, ◌-◌, length, drop, refl, arith, rules}
-use mathlib.Core.List.{foldl}
+use Rattle.std.proofs.Common.{refl, arith}
 use lib.Ieee.{nan, add, binary64}
-use Rattle.arith.specs.Arith.{sum_of}
 use Rattle.arith.proofs.Folds.{fold_more, fold_done}
 use Rattle.arith.proofs.sum_of.Goals as goal
 

@@ -1,9 +1,8 @@
 -- `arith::sum_of` meets its contract: what is left to add, from the sum so far, gives the whole. Assumes nothing.
-use Rattle.std.proofs.Common.{◌≡◌, ◌-◌, length, drop, refl, arith, rules}
+use Rattle.std.proofs.Common.{◌≡◌, ◌-◌, length, drop}
 use mathlib.Core.List.{foldl}
-use lib.Ieee.{nan, add, binary64}
+use lib.Ieee.{add, binary64}
 use Rattle.arith.specs.Arith.{sum_of}
-use Rattle.arith.proofs.Folds.{fold_more, fold_done}
 use Rattle.arith.proofs.sum_of.Given as goal
 
 abbrev pub invariant-loop-i : goal.invariant-loop-i

@@ -1,9 +1,9 @@
 -- `estimate` meets its contract: refused as the centre line was, or from it and from the record. Assumes nothing.
-use Rattle.std.proofs.Common.{◌≡◌, ℕ, false, length, ap, ◌∙◌, ap₂, rules}
+use Rattle.std.proofs.Common.{◌≡◌, ℕ, false, length, ap, ◌∙◌, ap₂}
 use lib.Ieee.{Float}
 use Rattle.charts.specs.Records.{own_wrong}
 use Rattle.charts.proofs.Held.{own_of}
-use Rattle.evaluating.specs.Asked.{Asked, asked}
+use Rattle.evaluating.specs.Asked.{asked}
 use Rattle.evaluating.specs.Sigma.{sigma_number, unless_refused, sigma_from, sigma_hat_of, sigma_hat_df_of, estimate_of}
 use Rattle.evaluating.proofs.Figures.{figure-refused, figure-done, was-refused, was-done, value-done, record-right}
 use Rattle.evaluating.proofs.estimate.Goals.{In-Done}

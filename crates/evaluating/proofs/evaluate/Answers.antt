@@ -1,9 +1,9 @@
 -- `evaluate` meets its contract: refused ahead of the arithmetic, or as `checked::evaluate` says. Assumes nothing.
-use Rattle.std.proofs.Common.{◌≡◌, Bool, length, sym, ap, ◌∙◌, ap₂, rules}
+use Rattle.std.proofs.Common.{◌≡◌, Bool, length, sym, ap, ◌∙◌, ap₂}
 use Rattle.laws.specs.Refusals.{first_of}
 use Rattle.rules.specs.Lines.{width_wrong}
 use Rattle.charts.proofs.Answers.{number-some}
-use Rattle.evaluating.specs.Asked.{Asked, asked, interrupted, in_mode}
+use Rattle.evaluating.specs.Asked.{asked, interrupted, in_mode}
 use Rattle.evaluating.specs.Evaluating.{positions_wrong, no_room}
 use Rattle.evaluating.specs.Steps.{ahead, tested}
 use Rattle.evaluating.proofs.Outcomes.{number-ahead, answer-refused, slice-refused}

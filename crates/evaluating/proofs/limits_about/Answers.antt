@@ -1,8 +1,7 @@
 -- `limits_about` meets its contract: 14, 7, or the limits that `limits::limits_from` gives. Assumes nothing.
-use Rattle.std.proofs.Common.{◌≡◌, Bool, not, sym, ap, ◌∙◌, rules}
+use Rattle.std.proofs.Common.{not, sym, ap, ◌∙◌}
 use Rattle.laws.proofs.Bools.{told}
 use Rattle.laws.proofs.Refusals.{passed, refused, none-applies}
-use Rattle.rules.specs.declared.Limits.{Limits}
 use Rattle.evaluating.specs.declared.limits.Measured.{Measured}
 use Rattle.evaluating.specs.Centres.{limits_about}
 use Rattle.evaluating.specs.Steps.{limits_from}

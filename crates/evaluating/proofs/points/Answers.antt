@@ -1,5 +1,5 @@
 -- `points` meets its contract. Assumes nothing.
-use Rattle.std.proofs.Common.{ℕ, sym, ◌∙◌, ap₂, rules}
+use Rattle.std.proofs.Common.{ℕ, sym, ◌∙◌, ap₂}
 use Rattle.laws.proofs.Bools.{told}
 use Rattle.laws.proofs.Refusals.{passed, refused, none-applies}
 use Rattle.evaluating.specs.Series.{points_of}

@@ -1,5 +1,5 @@
 -- `sigma_hat_df` meets its contract: refused or done as both figures are, of which it is one. Assumes nothing.
-use Rattle.std.proofs.Common.{sym, ap, ◌∙◌, rules}
+use Rattle.std.proofs.Common.{sym, ap, ◌∙◌}
 use Rattle.evaluating.specs.declared.Estimated.{Estimated}
 use Rattle.evaluating.specs.Sigma.{estimated}
 use Rattle.evaluating.proofs.Figures.{its-df}

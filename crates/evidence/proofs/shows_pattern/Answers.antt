@@ -12,7 +12,6 @@ use Rattle.sets.proofs.Sets.{bit_of-lt}
 use Rattle.rules.specs.Marking.{answer_of}
 use Rattle.rules.specs.Terms.{alone}
 use Rattle.evidence.proofs.Behind.{part-bounds, refused-alone, marked-alone}
-use borrow.Author.Rules.{rules}
 use Rattle.evidence.proofs.shows_pattern.Goals.{After-bit, After-number}
 use Rattle.evidence.proofs.shows_pattern.Goals as goal
 

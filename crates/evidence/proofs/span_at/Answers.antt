@@ -1,11 +1,8 @@
 -- `evidence::span_at` meets its contract, by what is shown at the position. Assumes nothing.
 use mathlib.Core.Path.{◌≡◌, sym, ◌∙◌}
 use native.Mathlib.Omega.{arith}
-use mathlib.Core.Bool.{false}
-use lib.ListN.{length}
-use Rattle.stops.specs.Stops.{cut_at, stops_wrong, main_points}
+use Rattle.stops.specs.Stops.{cut_at}
 use Rattle.stops.proofs.Cuts.{since-le}
-use Rattle.sets.specs.declared.Test.{Test}
 use Rattle.sets.specs.declared.Found.TheVariants as finding
 use Rattle.sets.specs.Sets.{test_at}
 use Rattle.evidence.specs.Evidence.{shown_at}

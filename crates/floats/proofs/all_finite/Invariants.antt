@@ -1,9 +1,7 @@
 -- `floats::all_finite` meets its contract: what was seen and the rest together say what the whole says. Assumes nothing.
-use mathlib.Core.Path.{refl}
 use Prim.Native.Nat.{◌≤◌, ◌-◌}
-use borrow.Author.Rules.{rules}
 use lib.ListN.{length}
-use Rattle.floats.proofs.AllFinite.{Seen, seen_next, seen_all}
+use Rattle.floats.proofs.AllFinite.{Seen}
 use Rattle.floats.proofs.all_finite.Given as goal
 
 abbrev pub invariant-loop-i : goal.invariant-loop-i

@@ -8,7 +8,6 @@ use lib.Arith.{le→nltb}
 use lib.Bits.{and_mask}
 use lib.Ieee.{Float, nan, inf, fin, is_nan, binary64, hid, ones, top, of_bits, div}
 use lib.Ieee.Bits.{nan_bits_is, nan_bits_above}
-use borrow.Author.Rules.{rules}
 use borrow.Author.Tests.{lt-ltb}
 use Rattle.floats.proofs.of_bits.Goals as goal
 

@@ -1,9 +1,6 @@
 -- `groups::read_number` meets its contract. `Reads` of proofs/ReadLoop.antt is the loop's invariant. Assumes nothing.
-use Prim.Native.Nat.{◌-◌}
 use native.Mathlib.Omega.{arith}
-use borrow.Author.Rules.{rules}
-use lib.ListN.{length}
-use Rattle.groups.proofs.ReadLoop.{Reads, reads-starts, reads-ends, shift_fits, reads-zero, reads-padding, reads-last, reads_on, reads-tenth, reads_over}
+use Rattle.groups.proofs.ReadLoop.{reads-starts, reads-ends, shift_fits, reads-zero, reads-padding, reads-last, reads_on, reads-tenth, reads_over}
 use Rattle.groups.proofs.read_number.Goals as goal
 
 pub loop-i-init : goal.loop-i-init

@@ -1,5 +1,4 @@
 -- `groups::size` meets its contract: one is counted for the groups that are left. Assumes nothing.
-use Prim.Native.Nat.{◌+◌}
 use native.Mathlib.Omega.{arith}
 use mathlib.Core.Path.{◌≡◌, ap}
 use lib.ListN.{length}

@@ -1,10 +1,8 @@
 -- `groups::size` meets its contract: one is counted for the groups that are left. Assumes nothing.
 use Prim.Native.Nat.{◌+◌}
-use native.Mathlib.Omega.{arith}
-use mathlib.Core.Path.{◌≡◌, ap}
+use mathlib.Core.Path.{◌≡◌}
 use lib.ListN.{length}
 use Rattle.groups.specs.Groups.{groups}
-use Rattle.groups.proofs.Strings.{groups-one, groups-more, groups-some, groups-most}
 use Rattle.groups.proofs.size.Given as goal
 
 abbrev pub invariant-loop-left : goal.invariant-loop-left

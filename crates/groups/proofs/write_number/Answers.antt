@@ -1,10 +1,8 @@
 -- `groups::write_number` meets its contract. `Writes` of proofs/WriteLoop.antt is the loop's invariant. Assumes nothing.
 use native.Mathlib.Omega.{arith}
-use borrow.Author.Rules.{rules}
-use lib.ListN.{length-set}
 use Rattle.laws.proofs.Rooms.{too_short, fits}
 use Rattle.groups.specs.Groups.{groups}
-use Rattle.groups.proofs.WriteLoop.{Writes, group-fits, writes-starts, writes-length, writes-room, writes-on, writes-all, writes-ends}
+use Rattle.groups.proofs.WriteLoop.{group-fits, writes-starts, writes-room, writes-on, writes-all, writes-ends}
 use Rattle.groups.proofs.write_number.Goals as goal
 
 pub returns-then-out-size : goal.returns-then-out-size

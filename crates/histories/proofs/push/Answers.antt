@@ -1,5 +1,4 @@
 -- `histories::push` meets its contract: a shift and an or. Assumes nothing.
-use borrow.Author.Rules.{rules}
 use Rattle.histories.proofs.Bits.{push-is}
 use Rattle.histories.proofs.push.Goals as goal
 

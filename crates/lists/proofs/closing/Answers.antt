@@ -1,7 +1,6 @@
 -- `lists::closing` meets its contract: it reads what `closing_from` does. Assumes nothing.
 use mathlib.Core.Path.{sym, ap, ◌∙◌}
 use borrow.Author.Tests.{lt-ltb, le-ltb}
-use borrow.Author.Rules.{rules}
 use Rattle.lists.specs.Found.{of_small}
 use Rattle.lists.specs.Reading.{closing_from}
 use Rattle.lists.proofs.closing.Goals as goal

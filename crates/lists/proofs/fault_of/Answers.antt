@@ -1,6 +1,5 @@
 -- `lists::fault_of` meets its contract. Assumes nothing.
 use mathlib.Core.Path.{sym, ◌∙◌}
-use borrow.Author.Rules.{rules}
 use Rattle.lists.proofs.fault_of.Goals as goal
 
 pub returns-then-is_cut : goal.returns-then-is_cut

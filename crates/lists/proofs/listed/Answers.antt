@@ -1,5 +1,4 @@
 -- `lists::listed` meets its contract. Assumes nothing.
-use borrow.Author.Rules.{rules}
 use Rattle.lists.proofs.listed.Goals as goal
 
 pub returns-then-have : goal.returns-then-have

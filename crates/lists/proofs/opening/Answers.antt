@@ -1,7 +1,6 @@
 -- `lists::opening` meets its contract: it reads what `opening_of` does. Assumes nothing.
 use mathlib.Core.Path.{sym, ap, ◌∙◌}
 use borrow.Author.Tests.{lt-ltb, le-ltb}
-use borrow.Author.Rules.{rules}
 use Rattle.lists.specs.Found.{of_small}
 use Rattle.lists.specs.Reading.{opening_of}
 use Rattle.lists.proofs.opening.Goals as goal

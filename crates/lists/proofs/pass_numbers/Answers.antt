@@ -6,7 +6,6 @@ use native.Mathlib.Omega.{arith}
 use Rattle.lists.specs.Found.{of_number}
 use Rattle.lists.specs.Reading.{number_from, numbers_from}
 use Rattle.lists.proofs.Rows.{row-none, row_next}
-use borrow.Author.Rules.{rules}
 use Rattle.lists.proofs.pass_numbers.Goals as goal
 
 pub loop-i-init : goal.loop-i-init

@@ -1,12 +1,8 @@
 -- `lists::pass_numbers` meets its contract. The invariant of its loop: what is found of those left is what is found of all. The measure is how many
 -- are left. Assumes nothing.
-use mathlib.Core.Path.{◌≡◌, sym, ap, ◌∙◌}
-use Prim.Native.Nat.{ℕ, ◌-◌}
-use native.Mathlib.Omega.{arith}
-use Rattle.lists.specs.Found.{of_number}
-use Rattle.lists.specs.Reading.{number_from, numbers_from}
-use Rattle.lists.proofs.Rows.{row-none, row_next}
-use borrow.Author.Rules.{rules}
+use mathlib.Core.Path.{◌≡◌}
+use Prim.Native.Nat.{◌-◌}
+use Rattle.lists.specs.Reading.{numbers_from}
 use Rattle.lists.proofs.pass_numbers.Given as goal
 
 abbrev pub invariant-loop-i : goal.invariant-loop-i

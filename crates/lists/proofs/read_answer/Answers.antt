@@ -1,6 +1,5 @@
 -- `lists::read_answer` meets its contract: its tests are those of `answer_from`. Assumes nothing.
 use mathlib.Core.Path.{sym, ap, ◌∙◌}
-use borrow.Author.Rules.{rules}
 use Rattle.lists.specs.Found.{of_small}
 use Rattle.lists.specs.Reading.{answer_from}
 use Rattle.lists.proofs.read_answer.Goals as goal

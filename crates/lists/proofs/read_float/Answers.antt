@@ -1,6 +1,5 @@
 -- `lists::read_float` meets its contract: its test is that of `float_from`. Assumes nothing.
 use mathlib.Core.Path.{sym, ap, ◌∙◌}
-use borrow.Author.Rules.{rules}
 use Rattle.lists.specs.Found.{of_number}
 use Rattle.lists.specs.Reading.{float_from}
 use Rattle.lists.proofs.read_float.Goals as goal

@@ -1,6 +1,5 @@
 -- `lists::read_number` meets its contract: it says of what it reads what `number_from` does. Assumes nothing.
 use mathlib.Core.Path.{sym, ap, ◌∙◌}
-use borrow.Author.Rules.{rules}
 use Rattle.lists.specs.Found.{fault}
 use Rattle.lists.specs.Reading.{found_in, number_from}
 use Rattle.lists.proofs.read_number.Goals as goal

@@ -1,12 +1,9 @@
 -- `lists::read_positions` meets its contract: its loop reads a row. Assumes nothing.
 use mathlib.Core.Path.{sym, ap, ◌∙◌}
-use Prim.Native.Nat.{◌-◌}
 use native.Mathlib.Omega.{arith}
-use borrow.Author.Rules.{rules}
-use lib.ListN.{length}
 use Rattle.lists.specs.Found.{of_number}
 use Rattle.lists.specs.Reading.{number_from}
-use Rattle.lists.proofs.Rows.{Reads, reads-starts, reads-length, reads-goes-on, reads-stops, reads-ends}
+use Rattle.lists.proofs.Rows.{reads-starts, reads-length, reads-goes-on, reads-stops, reads-ends}
 use Rattle.lists.proofs.read_positions.Goals as goal
 
 pub loop-i-init : goal.loop-i-init

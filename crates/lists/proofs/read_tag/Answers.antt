@@ -1,6 +1,5 @@
 -- `lists::read_tag` meets its contract: its tests are those of `tag_from`. Assumes nothing.
 use mathlib.Core.Path.{sym, ap, ◌∙◌}
-use borrow.Author.Rules.{rules}
 use Rattle.lists.specs.Found.{of_small}
 use Rattle.lists.specs.Reading.{tag_from}
 use Rattle.lists.proofs.read_tag.Goals as goal

@@ -1,11 +1,9 @@
 -- `plot` meets its contract: no room, all zero, or the columns in front. Assumes nothing.
 use mathlib.Core.Path.{refl, sym, ap, ◌∙◌}
 use mathlib.Core.Bool.{false}
-use Prim.Native.Nat.{◌-◌}
 use native.Mathlib.Omega.{arith}
-use borrow.Author.Tests.{not-true, not-false}
 use lib.ListN.{length, take}
-use lib.Seq.{length-take-le, length_front}
+use lib.Seq.{length-take-le}
 use Rattle.laws.proofs.Bools.{told}
 use Rattle.laws.proofs.LentAfter.{slice_kept, slice-7}
 use Rattle.floats.specs.Values.{plus_zero}
@@ -13,7 +11,6 @@ use Rattle.points.specs.Points.{sound, uppers, lowers, outs, zs, has_zs}
 use Rattle.points.specs.Plotting.{plot_from}
 use Rattle.points.proofs.Filled.{column-length}
 use Rattle.points.proofs.Plotting.{Room, has_room, number-6, number-7, number-0, plot-of-parts, part-zeroed, part-written, front_kept}
-use borrow.Author.Rules.{rules}
 use Rattle.points.proofs.plot.Goals.{Else-too_short}
 use Rattle.points.proofs.plot.Goals as goal
 

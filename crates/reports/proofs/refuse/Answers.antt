@@ -1,7 +1,6 @@
 -- `refuse` meets its contract: the line is counted, and then written. Assumes nothing.
 use Rattle.reports.specs.Text.{r_line}
 use Rattle.reports.proofs.Telling.{told-short, told-whole}
-use borrow.Author.Rules.{rules}
 use Rattle.reports.proofs.refuse.Goals as goal
 
 pub returns-then-out-n : goal.returns-then-out-n

@@ -1,13 +1,11 @@
 -- `report` meets its contract: the bytes are read, and the chart is told. Assumes nothing.
 use mathlib.Core.Path.{◌≡◌, sym, ap, subst, ◌∙◌}
-use mathlib.Core.List.{List}
 use Prim.Native.Nat.{ℕ, ◌-◌, ◌≤◌}
 use native.Mathlib.Nat.{sub-zero}
 use native.Mathlib.Omega.{arith}
-use lib.Ieee.{Float, binary64, of_bits}
+use lib.Ieee.{binary64, of_bits}
 use lib.ListN.{length, take, length-replicate}
 use lib.Seq.{length-take-le}
-use Rattle.charts.specs.declared.Chart.{Chart}
 use Rattle.charts.proofs.Held.{own}
 use Rattle.evaluating.specs.Asked.{asked}
 use Rattle.reports.specs.declared.flow.Flow.{Flow}
@@ -16,7 +14,6 @@ use Rattle.reports.specs.Text.{r_line}
 use Rattle.reports.specs.Report.{chart_report, text_on, text_of}
 use Rattle.reports.specs.Steps.{Legal, LegalFlow, said_by, size}
 use Rattle.laws.proofs.Rooms.{told-as}
-use borrow.Author.Rules.{rules}
 use Rattle.reports.proofs.report.Goals.{In-Read}
 use Rattle.reports.proofs.report.Goals as goal
 

@@ -1,10 +1,9 @@
 -- `report_chart` meets its contract: refused for its values or by evaluating, or told. Assumes nothing.
 use mathlib.Core.Path.{◌≡◌, refl, sym, ap, ap₂, ◌∙◌}
-use mathlib.Core.Bool.{true, false, not}
+use mathlib.Core.Bool.{true}
 use mathlib.Core.List.{List}
 use Prim.Native.Nat.{ℕ, ◌+◌, ◌-◌}
 use native.Mathlib.Omega.{arith}
-use borrow.Author.Tests.{not-true, not-false}
 use lib.Ieee.{binary64, of_bits}
 use lib.ListN.{length, take, replicate, length-replicate}
 use Rattle.floats.specs.Finite.{all_finite}
@@ -13,7 +12,7 @@ use Rattle.charts.specs.Records.{number}
 use Rattle.charts.proofs.Answers.{number-some}
 use Rattle.evaluating.specs.declared.Evaluated.{Evaluated}
 use Rattle.evaluating.specs.declared.Evaluated.TheVariants.{Done}
-use Rattle.evaluating.specs.Asked.{Asked, asked}
+use Rattle.evaluating.specs.Asked.{asked}
 use Rattle.evaluating.specs.Series.{points_in}
 use Rattle.evaluating.specs.Limits.{limits_of}
 use Rattle.evaluating.specs.Evaluating.{evaluated, evaluate_of, series_marks, number_of}
@@ -27,7 +26,6 @@ use Rattle.laws.proofs.Rooms.{told-as}
 use Rattle.reports.proofs.Evaluations.{short, few-samples, points-fit, at_room, refused-so, done-so, main-limits, dispersion-limits, marks-number}
 use Rattle.reports.proofs.Evaluations.{some-points, finite-main, finite-dispersion, not_finite, report-refused, report-done}
 use Rattle.reports.proofs.Evaluations.{points-from, first_small, length-marks, marks-left}
-use borrow.Author.Rules.{rules}
 use Rattle.reports.proofs.report_chart.Goals.{After-evaluate, After-first_index, Else-not-all_finite, In-Done}
 use Rattle.reports.proofs.report_chart.Goals as goal
 

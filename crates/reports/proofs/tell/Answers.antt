@@ -1,12 +1,10 @@
 -- `tell` meets its contract: the text is counted, and then written. Assumes nothing.
 use mathlib.Core.Path.{ap}
-use mathlib.Core.List.{List}
 use Prim.Native.Nat.{ℕ}
 use Rattle.reports.specs.Report.{first_index}
 use Rattle.reports.specs.TextSteps.{text_by}
 use Rattle.reports.proofs.Putting.{put_as}
 use Rattle.reports.proofs.Telling.{told-short, told-whole}
-use borrow.Author.Rules.{rules}
 use Rattle.reports.proofs.tell.Goals as goal
 
 pub put_chart-n-requires : goal.put_chart-n-requires

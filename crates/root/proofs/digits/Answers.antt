@@ -2,7 +2,7 @@
 -- Assumes nothing.
 use Rattle.std.proofs.Common.{◌*◌, ◌%◌, ◌^◌, ◌<◌, mod-eq_of_lt, arith}
 use lib.Bits.{and_le_l}
-use Rattle.root.proofs.Turns.{Turn, start, enough, again, ended, stopped}
+use Rattle.root.proofs.Turns.{start, enough, again, ended, stopped}
 use Rattle.root.proofs.digits.Goals as goal
 
 pub overflow_sub-rem : goal.overflow_sub-rem

@@ -1,8 +1,7 @@
 -- `root::digits` meets its contract. The invariant of its loop is `Turn` of `Turns.antt`, and the measure is the unit, which is halved.
 -- Assumes nothing.
-use Rattle.std.proofs.Common.{◌*◌, ◌%◌, ◌^◌, ◌<◌, mod-eq_of_lt, arith}
-use lib.Bits.{and_le_l}
-use Rattle.root.proofs.Turns.{Turn, start, enough, again, ended, stopped}
+use Rattle.std.proofs.Common.{◌*◌, ◌^◌}
+use Rattle.root.proofs.Turns.{Turn}
 use Rattle.root.proofs.digits.Given as goal
 
 abbrev pub invariant-loop-rem : goal.invariant-loop-rem

@@ -1,5 +1,5 @@
 -- `root::place` meets its contract: each arm is a law of `Steps.antt`. Assumes nothing.
-use Rattle.std.proofs.Common.{◌≡◌, ◌/◌, ◌^◌, ◌<◌, ◌≤◌, arith, rules}
+use Rattle.std.proofs.Common.{◌≡◌, ◌/◌, ◌^◌, ◌<◌, ◌≤◌, arith}
 use Rattle.root.proofs.Steps.{count, count-in, places-subnormal, places-normal}
 use Rattle.root.proofs.place.Goals.{Then-field-eq0}
 use Rattle.root.proofs.place.Goals as goal

@@ -1,6 +1,6 @@
 -- `root::root` meets its contract. `Answers.antt` has what is allowed at each bit pattern, and `Function.antt` that it is what `root_of` says.
 -- Assumes nothing.
-use Rattle.std.proofs.Common.{◌≡◌, ℕ, T, sym, subst, arith, rules}
+use Rattle.std.proofs.Common.{◌≡◌, ℕ, T, sym, subst, arith}
 use lib.Ieee.{Float, binary64, fits, of_bits, to_bits}
 use lib.Ieee.Bits.{of_bits-to_bits, to_bits-lt}
 use Rattle.root.specs.declared.Rooted.{Rooted}

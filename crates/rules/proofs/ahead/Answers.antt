@@ -4,7 +4,7 @@ use mathlib.Core.Bool.{true, false}
 use native.Mathlib.Omega.{arith}
 use lib.Dec.{ltb}
 use lib.ListN.{length}
-use borrow.Author.Tests.{lt-ltb, le-ltb, not-true, not-false}
+use borrow.Author.Tests.{lt-ltb, le-ltb}
 use Rattle.laws.specs.Refusals.{first_of}
 use Rattle.floats.specs.Finite.{all_finite}
 use Rattle.sets.specs.Sets.{too_large}
@@ -12,7 +12,6 @@ use Rattle.rules.specs.Finite.{finite_limits}
 use Rattle.rules.specs.Lines.{width_wrong}
 use Rattle.stops.specs.Stops.{stops_wrong, main_points}
 use Rattle.rules.specs.Marking.{ahead}
-use borrow.Author.Rules.{rules}
 use Rattle.rules.proofs.ahead.Goals.{Else-mask-gt-ALL, Else-not-finite_limits, Else-values-gt-MOST, Else-width-gt-OWN_WIDTHS, Else-wrong}
 use Rattle.rules.proofs.ahead.Goals as goal
 

@@ -1,7 +1,6 @@
 -- `rules::finite_limits` meets its contract, by what `is_finite` says of each. Assumes nothing.
 use mathlib.Core.Path.{refl}
 use Rattle.rules.specs.Finite.{finite_limits}
-use borrow.Author.Rules.{rules}
 use Rattle.rules.proofs.finite_limits.Goals as goal
 
 pub returns : goal.returns

@@ -1,6 +1,5 @@
 -- `rules::lines_of` meets its contract: its operations are those of the definition, on the widths. Assumes nothing.
 use mathlib.Core.Path.{ap}
-use borrow.Author.Rules.{rules}
 use Rattle.rules.specs.Lines.{lines_by, lines_of}
 use Rattle.rules.proofs.lines_of.Goals as goal
 

@@ -9,7 +9,6 @@ use Rattle.rules.specs.Terms.{under}
 use Rattle.rules.specs.Marking.{refusal, marks_by, cuts_of, marks_of}
 use Rattle.rules.proofs.Stopped.{parted}
 use Rattle.rules.proofs.Accepted.{answer-refused, answer-short, answer-done, marks-kept, marks-written}
-use borrow.Author.Rules.{rules}
 use Rattle.rules.proofs.mark.Goals as goal
 
 pub returns-then-number-ne0 : goal.returns-then-number-ne0

@@ -4,7 +4,6 @@ use mathlib.Core.List.{map}
 use Prim.Native.Nat.{ℕ}
 use native.Mathlib.Omega.{arith}
 use lib.ListN.{get_or}
-use borrow.Author.Rules.{rules}
 use Rattle.sets.specs.Sets.{tests}
 use Rattle.sets.proofs.Sets.{at-bit, bit_of-lt}
 use Rattle.rules.specs.Tests.{window}

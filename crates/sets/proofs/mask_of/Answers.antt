@@ -2,7 +2,6 @@
 use Prim.Native.Nat.{ℕ, ◌^◌}
 use native.Mathlib.Omega.{arith}
 use mathlib.Core.Path.{ap, ◌∙◌}
-use borrow.Author.Rules.{rules}
 use Rattle.laws.proofs.OneBit.{one_shl}
 use Rattle.sets.proofs.Sets.{bit_of-lt}
 use Rattle.sets.proofs.mask_of.Goals as goal

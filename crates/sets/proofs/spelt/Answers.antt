@@ -1,6 +1,5 @@
 -- `sets::spelt` meets its contract: the kit's comparison says yes just for equal bytes. Assumes nothing.
 use mathlib.Core.Path.{sym}
-use borrow.Author.Rules.{rules}
 use Rattle.sets.proofs.Names.{compared}
 use Rattle.sets.proofs.spelt.Goals as goal
 

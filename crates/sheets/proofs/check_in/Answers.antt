@@ -5,14 +5,13 @@ use Prim.Native.Nat.{ℕ}
 use mathlib.Core.List.{List}
 use lib.ListN.{length}
 use Rattle.rules.specs.declared.Marked.TheVariants.{Refused}
-use Rattle.rules.specs.Terms.{Terms, under}
+use Rattle.rules.specs.Terms.{under}
 use Rattle.rules.specs.Marking.{numbered, refusal}
 use Rattle.rules.proofs.Accepted.{refusal_is, Made, made}
 use Rattle.rules.proofs.Answers.{number-above}
 use Rattle.sheets.specs.Said.{said}
 use Rattle.sheets.specs.Answers.{plain, judged}
 use Rattle.sheets.proofs.Judging.{check_done, check-refused}
-use borrow.Author.Rules.{rules}
 use Rattle.sheets.proofs.check_in.Goals.{In-Done}
 use Rattle.sheets.proofs.check_in.Goals as goal
 

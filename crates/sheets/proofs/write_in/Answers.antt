@@ -5,7 +5,7 @@ use Prim.Native.Nat.{ℕ}
 use mathlib.Core.List.{List}
 use lib.ListN.{length}
 use Rattle.rules.specs.declared.Marked.TheVariants.{Refused}
-use Rattle.rules.specs.Terms.{Terms, under}
+use Rattle.rules.specs.Terms.{under}
 use Rattle.rules.specs.Marking.{numbered, refusal}
 use Rattle.rules.proofs.Accepted.{was-accepted, refusal_is, Made, made}
 use Rattle.rules.proofs.Answers.{number-above}
@@ -14,7 +14,6 @@ use Rattle.laws.specs.Front.{at_front_if_room, room_for}
 use Rattle.sheets.specs.Sheet.{sheet_of}
 use Rattle.sheets.specs.Answers.{series_sheet}
 use Rattle.sheets.proofs.Judging.{write_done, room-done, write-refused, room-refused}
-use borrow.Author.Rules.{rules}
 use Rattle.sheets.proofs.write_in.Goals.{In-Done}
 use Rattle.sheets.proofs.write_in.Goals as goal
 

@@ -4,7 +4,6 @@ use borrow.Author.Tests.{ltb-true}
 use Rattle.laws.proofs.Bools.{both}
 use Rattle.stops.specs.Cuts.{nearer}
 use Rattle.stops.proofs.Cuts.{both-cuts, one-cut}
-use borrow.Author.Rules.{rules}
 use Rattle.stops.proofs.after_stop.Goals as goal
 
 pub overflow_sub-p : goal.overflow_sub-p

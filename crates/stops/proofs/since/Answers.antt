@@ -1,7 +1,7 @@
 -- `stops::since` meets its contract: one stop after the other. Assumes nothing.
-use mathlib.Core.Path.{◌≡◌, refl, sym, ap, ◌∙◌}
-use Prim.Native.Nat.{◌+◌, ◌-◌, ◌≤◌}
-use lib.ListN.{length, drop}
+use mathlib.Core.Path.{refl, sym, ap, ◌∙◌}
+use Prim.Native.Nat.{◌+◌}
+use lib.ListN.{drop}
 use Rattle.stops.specs.Cuts.{by_stops, nearer}
 use Rattle.stops.proofs.Cuts.{stops-next, stops-none, since-stops}
 use borrow.Author.Rules.{rules}

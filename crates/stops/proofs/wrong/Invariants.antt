@@ -1,12 +1,9 @@
 -- `stops::wrong` meets its contract: one position after the other, each behind the last. Assumes nothing.
-use mathlib.Core.Path.{◌≡◌, sym, ap, ◌∙◌}
-use mathlib.Core.Bool.{Bool, ◌||◌}
-use Prim.Native.Nat.{◌+◌, ◌-◌, ◌≤◌}
-use lib.Dec.{leb}
-use lib.ListN.{length, drop, get_or}
+use mathlib.Core.Path.{◌≡◌}
+use Prim.Native.Nat.{◌-◌, ◌≤◌}
+use lib.ListN.{length, drop}
 use Rattle.stops.specs.Stops.{stops_wrong, main_points}
-use Rattle.stops.proofs.Rising.{wrong_from, wrong-all, wrong-next, wrong-none}
-use borrow.Author.Rules.{rules}
+use Rattle.stops.proofs.Rising.{wrong_from}
 use Rattle.stops.proofs.wrong.Given as goal
 
 abbrev pub invariant-loop-i : goal.invariant-loop-i

@@ -12,7 +12,6 @@ use Rattle.twin.specs.Bytes.{floats_of}
 use Rattle.twin.specs.Answers.{packed}
 use Rattle.twin.proofs.Refusing.{begun, values-front, check-stops, check-goes}
 use Rattle.twin.proofs.Packing.{packed-fits}
-use borrow.Author.Rules.{rules}
 use Rattle.twin.proofs.check_in.Goals as goal
 
 pub read_values-refused-requires : goal.read_values-refused-requires

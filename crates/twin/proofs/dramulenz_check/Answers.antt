@@ -1,6 +1,5 @@
 -- `twin::dramulenz_check` meets its contract: either rooms hold the values. Assumes nothing.
 use native.Mathlib.Omega.{arith}
-use borrow.Author.Rules.{rules}
 use Rattle.twin.proofs.dramulenz_check.Goals as goal
 
 pub check_in-requires : goal.check_in-requires

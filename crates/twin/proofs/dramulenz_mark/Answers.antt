@@ -1,6 +1,5 @@
 -- `twin::dramulenz_mark` meets its contract: either rooms hold the values. Assumes nothing.
 use native.Mathlib.Omega.{arith}
-use borrow.Author.Rules.{rules}
 use Rattle.twin.proofs.dramulenz_mark.Goals as goal
 
 pub mark_in-requires : goal.mark_in-requires

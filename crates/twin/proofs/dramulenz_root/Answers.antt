@@ -4,7 +4,6 @@ use lib.Ieee.{of_bits}
 use Rattle.root.specs.declared.Rooted.{Rooted}
 use Rattle.root.specs.Root.{numbered}
 use Rattle.twin.specs.Answers.{root_number}
-use borrow.Author.Rules.{rules}
 use Rattle.twin.proofs.dramulenz_root.Goals as goal
 
 pub returns-in-Root : goal.returns-in-Root

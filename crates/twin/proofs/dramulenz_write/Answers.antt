@@ -1,6 +1,5 @@
 -- `twin::dramulenz_write` meets its contract: either rooms hold the values. Assumes nothing.
 use native.Mathlib.Omega.{arith}
-use borrow.Author.Rules.{rules}
 use Rattle.twin.proofs.dramulenz_write.Goals as goal
 
 pub write_in-requires : goal.write_in-requires

@@ -10,7 +10,6 @@ use Rattle.rules.specs.Marking.{answer_of}
 use Rattle.twin.specs.Answers.{bytes_after}
 use Rattle.twin.proofs.FromBytes.{length-floats}
 use Rattle.twin.proofs.Refusing.{begun, values-front, mark-stops, mark-goes}
-use borrow.Author.Rules.{rules}
 use Rattle.twin.proofs.mark_in.Goals as goal
 
 pub read_values-refused-requires : goal.read_values-refused-requires

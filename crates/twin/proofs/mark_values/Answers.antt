@@ -5,11 +5,10 @@ use mathlib.Core.Path.{sym, ap, ◌∙◌}
 use mathlib.Core.List.{List}
 use lib.ListN.{length}
 use Rattle.laws.specs.Front.{at_front}
-use Rattle.rules.specs.Terms.{Terms, unstopped}
+use Rattle.rules.specs.Terms.{unstopped}
 use Rattle.rules.proofs.Accepted.{room-enough, Made, made}
 use Rattle.twin.specs.Bytes.{bytes_of}
 use Rattle.twin.proofs.Refusing.{bytes-refused, bytes-short, bytes-done}
-use borrow.Author.Rules.{rules}
 use Rattle.twin.proofs.mark_values.Goals.{Else-marked-ne0}
 use Rattle.twin.proofs.mark_values.Goals as goal
 

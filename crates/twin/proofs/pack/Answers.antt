@@ -5,7 +5,6 @@ use mathlib.Core.Path.{sym, ap, subst}
 use Rattle.sheets.specs.declared.Checked.{Checked}
 use Rattle.sheets.specs.Answers.{checked}
 use Rattle.twin.specs.Answers.{packed}
-use borrow.Author.Rules.{rules}
 use Rattle.twin.proofs.pack.Goals as goal
 
 pub overflow_mul-result : goal.overflow_mul-result

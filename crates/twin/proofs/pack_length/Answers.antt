@@ -5,7 +5,6 @@ use mathlib.Core.Path.{ap, subst}
 use Rattle.sheets.specs.declared.Written.{Written}
 use Rattle.sheets.specs.Answers.{written}
 use Rattle.twin.specs.Answers.{packed_length}
-use borrow.Author.Rules.{rules}
 use Rattle.twin.proofs.pack_length.Goals as goal
 
 pub overflow_mul-result : goal.overflow_mul-result

@@ -1,12 +1,11 @@
 -- `twin::put_marks` meets its contract. The bytes are written two at a time. Assumes nothing.
-use Prim.Native.Nat.{◌+◌, ◌*◌, ◌-◌, ◌<◌}
+use Prim.Native.Nat.{◌+◌, ◌*◌, ◌<◌}
 use native.Mathlib.Omega.{arith}
 use mathlib.Core.Path.{◌≡◌, sym, ◌∙◌, subst}
 use lib.ListN.{length, length-set, set}
 use Rattle.laws.proofs.Filling.{Filling, filling-starts, filling-length, filling-goes-on, filling-ends}
 use Rattle.twin.specs.Bytes.{bytes_of}
 use Rattle.twin.proofs.FromBytes.{length-bytes, low_byte, high_byte}
-use borrow.Author.Rules.{rules}
 use Rattle.twin.proofs.put_marks.Goals as goal
 
 pub loop-i-init : goal.loop-i-init

@@ -1,12 +1,8 @@
 -- `twin::put_marks` meets its contract. The bytes are written two at a time. Assumes nothing.
-use Prim.Native.Nat.{◌+◌, ◌*◌, ◌-◌, ◌<◌}
-use native.Mathlib.Omega.{arith}
-use mathlib.Core.Path.{◌≡◌, sym, ◌∙◌, subst}
-use lib.ListN.{length, length-set, set}
-use Rattle.laws.proofs.Filling.{Filling, filling-starts, filling-length, filling-goes-on, filling-ends}
+use Prim.Native.Nat.{◌*◌, ◌-◌}
+use lib.ListN.{length}
+use Rattle.laws.proofs.Filling.{Filling}
 use Rattle.twin.specs.Bytes.{bytes_of}
-use Rattle.twin.proofs.FromBytes.{length-bytes, low_byte, high_byte}
-use borrow.Author.Rules.{rules}
 use Rattle.twin.proofs.put_marks.Given as goal
 
 abbrev pub invariant-loop-i : goal.invariant-loop-i

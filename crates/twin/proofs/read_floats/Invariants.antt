@@ -1,12 +1,8 @@
 -- `twin::read_floats` meets its contract. The values are written one after the other. Assumes nothing.
 use Prim.Native.Nat.{◌-◌, ◌/◌}
-use native.Mathlib.Omega.{arith}
-use mathlib.Core.Path.{ap, ◌∙◌}
-use lib.Ieee.{binary64, of_bits}
 use lib.ListN.{length}
-use Rattle.laws.proofs.Filling.{Tabling, tabling-starts, tabling-length, tabling-room, tabling-goes-on, tabling-ends}
-use Rattle.twin.specs.Bytes.{float_at, floats_of}
-use borrow.Author.Rules.{rules}
+use Rattle.laws.proofs.Filling.{Tabling}
+use Rattle.twin.specs.Bytes.{float_at}
 use Rattle.twin.proofs.read_floats.Given as goal
 
 abbrev pub invariant-loop-i : goal.invariant-loop-i

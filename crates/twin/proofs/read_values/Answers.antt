@@ -6,7 +6,6 @@ use lib.ListN.{length}
 use borrow.Author.Tests.{lt-ltb, le-ltb, eq-eqb, ne_eqb}
 use Rattle.laws.specs.Refusals.{first_of}
 use Rattle.twin.specs.Steps.{early, values_after}
-use borrow.Author.Rules.{rules}
 use Rattle.twin.proofs.read_values.Goals as goal
 
 pub returns-then-b-ne0 : goal.returns-then-b-ne0

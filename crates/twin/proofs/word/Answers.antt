@@ -1,7 +1,6 @@
 -- `twin::word` meets its contract. Assumes nothing.
 use Prim.Native.Nat.{ℕ, ◌+◌, ◌*◌}
 use mathlib.Core.Path.{◌∙◌, ap₂}
-use borrow.Author.Rules.{rules}
 use Rattle.twin.proofs.FromBytes.{eight_is}
 use Rattle.twin.proofs.word.Goals as goal
 

@@ -12,7 +12,6 @@ use Rattle.twin.specs.Bytes.{floats_of}
 use Rattle.twin.specs.Answers.{packed_length}
 use Rattle.twin.proofs.Refusing.{begun, values-front, write-stops, write_goes}
 use Rattle.twin.proofs.Packing.{length-fits}
-use borrow.Author.Rules.{rules}
 use Rattle.twin.proofs.write_in.Goals as goal
 
 pub read_values-refused-requires : goal.read_values-refused-requires

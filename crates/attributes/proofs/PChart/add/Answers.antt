@@ -1,5 +1,5 @@
 -- `PChart::add` meets its contract: refused, or the sample stands behind the others. Assumes nothing.
-use Rattle.std.proofs.Common.{length, sym, refl, ap, ◌∙◌, arith, rules}
+use Rattle.std.proofs.Common.{length, sym, refl, ap, ◌∙◌, arith}
 use Rattle.laws.specs.Bools.{every}
 use Rattle.attributes.specs.Records.{sample_p, add_p, kept_after}
 use Rattle.attributes.specs.Steps.{tested}

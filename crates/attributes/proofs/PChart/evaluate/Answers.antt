@@ -1,5 +1,5 @@
 -- `PChart::evaluate` meets its contract: refused ahead of the arithmetic, or as the points are. Assumes nothing.
-use Rattle.std.proofs.Common.{◌≡◌, Bool, false, length, sym, ap, ◌∙◌, ap₂, arith, rules}
+use Rattle.std.proofs.Common.{◌≡◌, Bool, false, length, sym, ap, ◌∙◌, ap₂, arith}
 use Rattle.laws.specs.Refusals.{first_of}
 use Rattle.laws.proofs.Bools.{told}
 use Rattle.laws.proofs.Lists.{length-tabulate}

@@ -1,5 +1,5 @@
 -- `PChart::with_centre` meets its contract, by its test. Assumes nothing.
-use Rattle.std.proofs.Common.{sym, ◌∙◌, rules}
+use Rattle.std.proofs.Common.{sym, ◌∙◌}
 use Rattle.laws.proofs.Bools.{told-not}
 use Rattle.laws.proofs.Refusals.{passed, refused, none-applies}
 use Rattle.attributes.specs.Records.{with_centre_p}

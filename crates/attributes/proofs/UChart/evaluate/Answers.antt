@@ -1,5 +1,5 @@
 -- `UChart::evaluate` meets its contract: refused ahead of the arithmetic, or as the points are. Assumes nothing.
-use Rattle.std.proofs.Common.{◌≡◌, Bool, false, length, take, sym, ap, ◌∙◌, ap₂, arith, length-take-le, rules}
+use Rattle.std.proofs.Common.{◌≡◌, Bool, false, length, take, sym, ap, ◌∙◌, ap₂, arith, length-take-le}
 use Rattle.laws.specs.Refusals.{first_of}
 use Rattle.laws.proofs.Bools.{told}
 use Rattle.floats.specs.Values.{plus_zero}

@@ -1,5 +1,5 @@
 -- `checks::adding` meets its contract: its tests are those of the definition, in the same order. Assumes nothing.
-use Rattle.std.proofs.Common.{not, eqb, sym, ap, ◌∙◌, rules, le-leb}
+use Rattle.std.proofs.Common.{not, eqb, sym, ap, ◌∙◌, le-leb}
 use borrow.Author.Tests.{lt-leb}
 use Rattle.laws.proofs.Refusals.{passed, refused, none-applies}
 use Rattle.attributes.specs.declared.checks.Tested.{Tested}

@@ -1,5 +1,5 @@
 -- `plots::answer` meets its contract: each way in its turn. Assumes nothing.
-use Rattle.std.proofs.Common.{sym, ap, rules}
+use Rattle.std.proofs.Common.{sym, ap}
 use Rattle.points.specs.declared.Plotted.{Plotted}
 use Rattle.points.specs.Plotting.{plotted}
 use Rattle.attributes.specs.Evaluating.{answer_for}

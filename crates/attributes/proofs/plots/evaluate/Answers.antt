@@ -1,5 +1,5 @@
 -- `plots::evaluate` meets its contract: the points about the centre, and the answer by how plotting went. Assumes nothing.
-use Rattle.std.proofs.Common.{◌∙◌, arith, rules}
+use Rattle.std.proofs.Common.{arith}
 use Rattle.points.specs.Plotting.{plotted}
 use Rattle.attributes.proofs.Outcomes.{in-two-steps, plotted-so}
 use Rattle.attributes.proofs.plots.evaluate.Goals as goal

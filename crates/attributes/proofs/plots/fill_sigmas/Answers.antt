@@ -1,9 +1,9 @@
 -- `plots::fill_sigmas` meets its contract: the entries are changed one after the other. Assumes nothing.
-use Rattle.std.proofs.Common.{ℕ, ◌-◌, List, get_or, ap, ◌∙◌, arith, rules}
+use Rattle.std.proofs.Common.{ℕ, List, ap, ◌∙◌, arith}
 use lib.Ieee.{Float, nan}
 use Rattle.laws.specs.Front.{at_front}
 use Rattle.laws.proofs.Lists.{tabulate-front}
-use Rattle.laws.proofs.Filling.{Tabling, tabling-starts, tabling-length, tabling-room, tabling-goes-on, tabling-ends, in_place}
+use Rattle.laws.proofs.Filling.{tabling-starts, tabling-room, tabling-goes-on, tabling-ends, in_place}
 use Rattle.arith.specs.Arith.{or_nan}
 use Rattle.attributes.specs.Evaluating.{sigma_of}
 use Rattle.attributes.proofs.plots.fill_sigmas.Goals as goal

@@ -1,9 +1,7 @@
 -- `plots::fill_values` meets its contract: the entries are written one after the other. Assumes nothing.
-use Rattle.std.proofs.Common.{ℕ, ◌-◌, List, get_or, refl, ap, ◌∙◌, arith, rules}
-use lib.Ieee.{Float, nan, binary64, div}
-use Rattle.laws.specs.Front.{at_front}
-use Rattle.laws.proofs.Lists.{tabulate-front}
-use Rattle.laws.proofs.Filling.{Tabling, tabling-starts, tabling-length, tabling-room, tabling-goes-on, tabling-ends}
+use Rattle.std.proofs.Common.{◌-◌, get_or}
+use lib.Ieee.{nan, binary64, div}
+use Rattle.laws.proofs.Filling.{Tabling}
 use Rattle.floats.specs.Values.{whole}
 use Rattle.attributes.proofs.plots.fill_values.Given as goal
 

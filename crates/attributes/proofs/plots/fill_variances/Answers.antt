@@ -1,9 +1,9 @@
 -- `plots::fill_variances` meets its contract: the entries are changed one after the other. Assumes nothing.
-use Rattle.std.proofs.Common.{ℕ, ◌-◌, List, get_or, ap, ◌∙◌, arith, rules}
+use Rattle.std.proofs.Common.{ℕ, List, ap, ◌∙◌, arith}
 use lib.Ieee.{Float, nan, binary64, div}
 use Rattle.laws.specs.Front.{at_front}
 use Rattle.laws.proofs.Lists.{tabulate-front}
-use Rattle.laws.proofs.Filling.{Tabling, tabling-starts, tabling-length, tabling-room, tabling-goes-on, tabling-ends, in_place}
+use Rattle.laws.proofs.Filling.{tabling-starts, tabling-room, tabling-goes-on, tabling-ends, in_place}
 use Rattle.attributes.proofs.plots.fill_variances.Goals as goal
 
 pub loop-i-init : goal.loop-i-init

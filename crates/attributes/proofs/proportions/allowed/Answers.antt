@@ -1,5 +1,5 @@
 -- `proportions::allowed` meets its contract. Assumes nothing.
-use Rattle.std.proofs.Common.{Bool, ◌&&◌, ap, rules}
+use Rattle.std.proofs.Common.{Bool, ◌&&◌, ap}
 use lib.Ieee.{of_bits, round, lt}
 use Rattle.floats.specs.Values.{plus_zero, decimal}
 use Rattle.attributes.proofs.proportions.allowed.Goals as goal

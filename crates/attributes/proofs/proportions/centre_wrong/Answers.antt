@@ -1,5 +1,5 @@
 -- `proportions::centre_wrong` meets its contract: each centre in its turn. Assumes nothing.
-use Rattle.std.proofs.Common.{not, sym, ap, ◌∙◌, rules}
+use Rattle.std.proofs.Common.{not, sym, ap, ◌∙◌}
 use Rattle.attributes.specs.Records.{centre_wrong, proportion_allowed}
 use Rattle.attributes.proofs.proportions.centre_wrong.Goals as goal
 

@@ -1,7 +1,6 @@
 -- `proportions::fill_sizes` meets its contract: the entries are written one after the other. Assumes nothing.
-use Rattle.std.proofs.Common.{◌-◌, get_or, refl, arith, rules}
-use Rattle.laws.proofs.Filling.{Tabling, tabling-starts, tabling-length, tabling-room, tabling-goes-on, tabling-ends}
-use Rattle.floats.specs.Values.{whole}
+use Rattle.std.proofs.Common.{refl, arith}
+use Rattle.laws.proofs.Filling.{tabling-starts, tabling-room, tabling-goes-on, tabling-ends}
 use Rattle.attributes.proofs.proportions.fill_sizes.Goals as goal
 
 pub loop-i-init : goal.loop-i-init

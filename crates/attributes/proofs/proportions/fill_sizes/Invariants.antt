@@ -1,6 +1,6 @@
 -- `proportions::fill_sizes` meets its contract: the entries are written one after the other. Assumes nothing.
-use Rattle.std.proofs.Common.{◌-◌, get_or, refl, arith, rules}
-use Rattle.laws.proofs.Filling.{Tabling, tabling-starts, tabling-length, tabling-room, tabling-goes-on, tabling-ends}
+use Rattle.std.proofs.Common.{◌-◌, get_or}
+use Rattle.laws.proofs.Filling.{Tabling}
 use Rattle.floats.specs.Values.{whole}
 use Rattle.attributes.proofs.proportions.fill_sizes.Given as goal
 

@@ -1,9 +1,8 @@
 -- `proportions::stored_right` meets its contract: what was seen and the rest together say what the whole says. Assumes nothing.
-use Rattle.std.proofs.Common.{◌-◌, ◌^◌, ltb, get_or, sym, ◌∙◌, rules}
+use Rattle.std.proofs.Common.{sym, ◌∙◌}
 use lib.Dec.{leb-suc-suc}
-use Rattle.laws.proofs.Judged.{Judged, judged-starts, judged-all}
-use Rattle.attributes.specs.Records.{sample_p}
-use Rattle.attributes.specs.Evaluating.{right, stored_right_p}
+use Rattle.laws.proofs.Judged.{judged-starts, judged-all}
+use Rattle.attributes.specs.Evaluating.{stored_right_p}
 use Rattle.attributes.proofs.Samples.{judged-bits}
 use Rattle.attributes.proofs.proportions.stored_right.Goals as goal
 

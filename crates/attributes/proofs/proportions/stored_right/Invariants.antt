@@ -1,10 +1,8 @@
 -- `proportions::stored_right` meets its contract: what was seen and the rest together say what the whole says. Assumes nothing.
-use Rattle.std.proofs.Common.{◌-◌, ◌^◌, ltb, get_or, sym, ◌∙◌, rules}
-use lib.Dec.{leb-suc-suc}
-use Rattle.laws.proofs.Judged.{Judged, judged-starts, judged-all}
+use Rattle.std.proofs.Common.{◌-◌, ◌^◌, ltb, get_or}
+use Rattle.laws.proofs.Judged.{Judged}
 use Rattle.attributes.specs.Records.{sample_p}
-use Rattle.attributes.specs.Evaluating.{right, stored_right_p}
-use Rattle.attributes.proofs.Samples.{judged-bits}
+use Rattle.attributes.specs.Evaluating.{right}
 use Rattle.attributes.proofs.proportions.stored_right.Given as goal
 
 abbrev pub invariant-loop-i : goal.invariant-loop-i

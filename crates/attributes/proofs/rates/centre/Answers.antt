@@ -1,5 +1,5 @@
 -- `rates::centre` meets its contract: each centre in its turn. Assumes nothing.
-use Rattle.std.proofs.Common.{ℕ, take, ap, ◌∙◌, ap₂, rules}
+use Rattle.std.proofs.Common.{ℕ, take, ap, ◌∙◌, ap₂}
 use native.Mathlib.Nat.{sub-zero}
 use lib.Ieee.{binary64, div}
 use Rattle.floats.specs.Values.{whole}

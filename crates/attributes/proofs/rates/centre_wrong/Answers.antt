@@ -1,5 +1,5 @@
 -- `rates::centre_wrong` meets its contract: each centre in its turn. Assumes nothing.
-use Rattle.std.proofs.Common.{not, sym, ap, ◌∙◌, rules}
+use Rattle.std.proofs.Common.{not, sym, ap, ◌∙◌}
 use Rattle.attributes.specs.Records.{centre_wrong, rate_allowed}
 use Rattle.attributes.proofs.rates.centre_wrong.Goals as goal
 

@@ -1,7 +1,7 @@
 -- `rates::fill_sizes` meets its contract: the entries are written one after the other. Assumes nothing.
-use Rattle.std.proofs.Common.{◌-◌, length, take, sym, arith, length-take-le, get_or-take, rules}
+use Rattle.std.proofs.Common.{sym, arith, length-take-le, get_or-take}
 use lib.Ieee.{nan}
-use Rattle.laws.proofs.Filling.{Filling, filling-starts, filling-length, filling-goes-on, filling-ends}
+use Rattle.laws.proofs.Filling.{filling-starts, filling-length, filling-goes-on, filling-ends}
 use Rattle.attributes.proofs.rates.fill_sizes.Goals as goal
 
 pub loop-i-init : goal.loop-i-init

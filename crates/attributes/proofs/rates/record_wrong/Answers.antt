@@ -1,5 +1,5 @@
 -- `rates::record_wrong` meets its contract. Assumes nothing.
-use Rattle.std.proofs.Common.{Bool, ap, ◌∙◌, rules}
+use Rattle.std.proofs.Common.{Bool, ap, ◌∙◌}
 use Rattle.attributes.specs.Records.{record_wrong}
 use Rattle.attributes.proofs.rates.record_wrong.Goals as goal
 

@@ -1,5 +1,5 @@
 -- `rates::sample` meets its contract: its tests are those of the definition, in the same order. Assumes nothing.
-use Rattle.std.proofs.Common.{sym, ◌∙◌, rules, le-ltb, lt-ltb}
+use Rattle.std.proofs.Common.{sym, ◌∙◌, le-ltb, lt-ltb}
 use Rattle.laws.proofs.Bools.{told-not}
 use Rattle.laws.proofs.Refusals.{passed, refused, none-applies}
 use Rattle.attributes.proofs.rates.sample.Goals as goal

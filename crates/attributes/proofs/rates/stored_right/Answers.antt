@@ -1,9 +1,6 @@
 -- `rates::stored_right` meets its contract: what was seen and the rest together say what the whole says. Assumes nothing.
-use Rattle.std.proofs.Common.{◌-◌, get_or, rules}
-use lib.Ieee.{nan}
-use Rattle.laws.proofs.Judged.{Judged, judged-starts, judged-next, judged-all}
-use Rattle.attributes.specs.Records.{sample_u}
-use Rattle.attributes.specs.Evaluating.{right, stored_right_u}
+use Rattle.laws.proofs.Judged.{judged-starts, judged-next, judged-all}
+use Rattle.attributes.specs.Evaluating.{stored_right_u}
 use Rattle.attributes.proofs.rates.stored_right.Goals as goal
 
 pub loop-i-init : goal.loop-i-init

@@ -1,9 +1,9 @@
 -- `rates::stored_right` meets its contract: what was seen and the rest together say what the whole says. Assumes nothing.
-use Rattle.std.proofs.Common.{◌-◌, get_or, rules}
+use Rattle.std.proofs.Common.{◌-◌, get_or}
 use lib.Ieee.{nan}
-use Rattle.laws.proofs.Judged.{Judged, judged-starts, judged-next, judged-all}
+use Rattle.laws.proofs.Judged.{Judged}
 use Rattle.attributes.specs.Records.{sample_u}
-use Rattle.attributes.specs.Evaluating.{right, stored_right_u}
+use Rattle.attributes.specs.Evaluating.{right}
 use Rattle.attributes.proofs.rates.stored_right.Given as goal
 
 abbrev pub invariant-loop-i : goal.invariant-loop-i

@@ -1,5 +1,5 @@
 -- `rates::wrong` meets its contract: the record, then its stored samples. Assumes nothing.
-use Rattle.std.proofs.Common.{not, ap, rules}
+use Rattle.std.proofs.Common.{not, ap}
 use Rattle.laws.proofs.Bools.{told, or_yes, or_no}
 use Rattle.attributes.specs.Evaluating.{wrong_u}
 use Rattle.attributes.proofs.Held.{held}

@@ -1,6 +1,6 @@
 -- `totals::total` meets its contract: the total so far and the rest together are the whole. Assumes nothing.
-use Rattle.std.proofs.Common.{◌-◌, length, arith, rules}
-use Rattle.attributes.proofs.Totalling.{Totalling, totalling-starts, totalling-next, totalling-ends}
+use Rattle.std.proofs.Common.{arith}
+use Rattle.attributes.proofs.Totalling.{totalling-starts, totalling-next, totalling-ends}
 use Rattle.attributes.proofs.totals.total.Goals as goal
 
 pub loop-i-init : goal.loop-i-init

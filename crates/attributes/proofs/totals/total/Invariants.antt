@@ -1,6 +1,6 @@
 -- `totals::total` meets its contract: the total so far and the rest together are the whole. Assumes nothing.
-use Rattle.std.proofs.Common.{◌-◌, length, arith, rules}
-use Rattle.attributes.proofs.Totalling.{Totalling, totalling-starts, totalling-next, totalling-ends}
+use Rattle.std.proofs.Common.{◌-◌, length}
+use Rattle.attributes.proofs.Totalling.{Totalling}
 use Rattle.attributes.proofs.totals.total.Given as goal
 
 abbrev pub invariant-loop-i : goal.invariant-loop-i

@@ -10,7 +10,7 @@ use Rattle.laws.proofs.Refusals.{passed, refused, none-applies}
 use Rattle.floats.specs.Finite.{all_finite}
 use Rattle.charts.specs.Records.{record_wrong, add_of, values_after}
 use Rattle.charts.proofs.Held.{Held, held}
-use Rattle.charts.proofs.Appending.{appended, lent_length, kept-length}
+use Rattle.charts.proofs.Appending.{appended, lent_length}
 use borrow.Author.Rules.{rules}
 use Rattle.charts.proofs.Chart.add.Goals.{Else-not-all_finite, Else-record_wrong, Else-sample-self}
 use Rattle.charts.proofs.Chart.add.Goals as goal

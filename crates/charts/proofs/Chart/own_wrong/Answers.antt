@@ -1,6 +1,5 @@
 -- `Chart::own_wrong` meets its contract, by what it is told of the kind and the size. Assumes nothing.
 use Rattle.charts.specs.Records.{own_wrong}
-use borrow.Author.Rules.{rules}
 use Rattle.charts.proofs.Chart.own_wrong.Goals as goal
 
 pub returns : goal.returns

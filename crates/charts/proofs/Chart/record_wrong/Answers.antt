@@ -3,7 +3,6 @@ use native.Mathlib.Omega.{arith}
 use Rattle.laws.proofs.Bools.{told}
 use Rattle.charts.specs.Records.{record_wrong}
 use Rattle.charts.proofs.Held.{own}
-use borrow.Author.Rules.{rules}
 use Rattle.charts.proofs.Chart.record_wrong.Goals as goal
 
 pub overflow_mul-result : goal.overflow_mul-result

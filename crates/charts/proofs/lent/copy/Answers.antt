@@ -1,12 +1,10 @@
 -- `lent::copy` meets its contract: the slice is filled with the other. Assumes nothing.
 use mathlib.Core.Path.{refl, ap, ◌∙◌}
 use mathlib.Core.List.{◌++◌, append-nil}
-use Prim.Native.Nat.{◌-◌}
 use native.Mathlib.Omega.{arith}
 use lib.Ieee.{nan}
 use lib.ListN.{length, drop_of_length-le}
-use Rattle.laws.proofs.Filling.{Filling, filling-starts, filling-length, filling-goes-on, filling-ends}
-use borrow.Author.Rules.{rules}
+use Rattle.laws.proofs.Filling.{filling-starts, filling-length, filling-goes-on, filling-ends}
 use Rattle.charts.proofs.lent.copy.Goals as goal
 
 pub loop-i-init : goal.loop-i-init

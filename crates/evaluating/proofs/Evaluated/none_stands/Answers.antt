@@ -1,5 +1,5 @@
 -- `Evaluated::none_stands` meets its contract: each answer in its turn. Assumes nothing.
-use Rattle.std.proofs.Common.{ℕ, eqb, sym, ap, ◌∙◌, rules}
+use Rattle.std.proofs.Common.{ℕ, eqb, sym, ap, ◌∙◌}
 use Rattle.evaluating.specs.declared.Evaluated.{Evaluated}
 use Rattle.evaluating.specs.Evaluating.{evaluated}
 use Rattle.evaluating.proofs.Evaluated.none_stands.Goals as goal

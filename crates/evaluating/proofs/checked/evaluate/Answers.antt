@@ -1,11 +1,11 @@
 -- `checked::evaluate` meets its contract: not sound, and all is zero; sound, and both series are marked. Assumes nothing.
-use Rattle.std.proofs.Common.{◌≡◌, Bool, true, length, sym, refl, ap, ◌∙◌, arith, rules}
+use Rattle.std.proofs.Common.{◌≡◌, true, length, sym, refl, ap, ◌∙◌, arith}
 use borrow.Author.Tests.{not-true, not-false}
 use Rattle.laws.proofs.LentAfter.{slice-7, slice-done}
 use Rattle.rules.specs.Lines.{width_wrong}
 use Rattle.evaluating.specs.declared.Evaluation.{Evaluation}
 use Rattle.evaluating.specs.declared.limits.Measured.{Measured}
-use Rattle.evaluating.specs.Asked.{Asked, asked, interrupted, in_mode}
+use Rattle.evaluating.specs.Asked.{asked, interrupted, in_mode}
 use Rattle.evaluating.specs.Limits.{limits_of}
 use Rattle.evaluating.specs.Evaluating.{answer_done, positions_wrong, no_room, sound}
 use Rattle.evaluating.specs.Steps.{measured}

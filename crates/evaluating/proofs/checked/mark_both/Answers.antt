@@ -1,5 +1,5 @@
 -- `checked::mark_both` meets its contract. Assumes nothing.
-use Rattle.std.proofs.Common.{ℕ, ◌+◌, ap₂, rules}
+use Rattle.std.proofs.Common.{ℕ, ◌+◌, ap₂}
 use Rattle.evaluating.proofs.checked.mark_both.Goals as goal
 
 pub returns : goal.returns

@@ -1,6 +1,5 @@
 -- `checks::no_room` meets its contract, by what it is told of the series' lengths. Assumes nothing.
 use Rattle.evaluating.specs.Evaluating.{no_room}
-use Rattle.std.proofs.Common.{rules}
 use Rattle.evaluating.proofs.checks.no_room.Goals as goal
 
 pub returns : goal.returns

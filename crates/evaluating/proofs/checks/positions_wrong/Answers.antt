@@ -1,5 +1,5 @@
 -- `checks::positions_wrong` meets its contract. Assumes nothing.
-use Rattle.std.proofs.Common.{ℕ, Bool, ◌||◌, take, sym, ap, ◌∙◌, rules, le-ltb, lt-ltb}
+use Rattle.std.proofs.Common.{ℕ, Bool, ◌||◌, take, sym, ap, ◌∙◌, le-ltb, lt-ltb}
 use native.Mathlib.Nat.{sub-zero}
 use Rattle.stops.specs.Stops.{stops_wrong}
 use Rattle.evaluating.specs.Asked.{stops_among}

@@ -1,5 +1,5 @@
 -- `factors::factor` meets its contract: the table is the definition's, entry by entry. Assumes nothing.
-use Rattle.std.proofs.Common.{refl, rules, le-ltb}
+use Rattle.std.proofs.Common.{refl, le-ltb}
 use lib.Ieee.{of_bits, round}
 use Rattle.evaluating.specs.Factors.{factor_of}
 use Rattle.evaluating.proofs.factors.factor.Goals as goal

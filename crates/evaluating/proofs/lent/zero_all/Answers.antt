@@ -1,5 +1,4 @@
 -- `lent::zero_all` meets its contract. Assumes nothing.
-use Rattle.std.proofs.Common.{rules}
 use Rattle.evaluating.proofs.lent.zero_all.Goals as goal
 
 pub returns : goal.returns

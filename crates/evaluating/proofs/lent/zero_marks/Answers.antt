@@ -1,6 +1,6 @@
 -- `lent::zero_marks` meets its contract: the slice is filled with zero. Assumes nothing.
-use Rattle.std.proofs.Common.{◌-◌, length, arith, rules}
-use Rattle.laws.proofs.OneValue.{OneValue, one-value-starts, one-value-length, one-value-goes-on, one-value-ends}
+use Rattle.std.proofs.Common.{arith}
+use Rattle.laws.proofs.OneValue.{one-value-starts, one-value-length, one-value-goes-on, one-value-ends}
 use Rattle.evaluating.proofs.lent.zero_marks.Goals as goal
 
 pub loop-i-init : goal.loop-i-init

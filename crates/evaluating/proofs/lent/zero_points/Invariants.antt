@@ -1,6 +1,6 @@
 -- `lent::zero_points` meets its contract: the slice is filled with zero. Assumes nothing.
-use Rattle.std.proofs.Common.{◌-◌, length, arith, rules}
-use Rattle.laws.proofs.OneValue.{OneValue, one-value-starts, one-value-length, one-value-goes-on, one-value-ends}
+use Rattle.std.proofs.Common.{◌-◌, length}
+use Rattle.laws.proofs.OneValue.{OneValue}
 use Rattle.floats.specs.Values.{plus_zero}
 use Rattle.evaluating.proofs.lent.zero_points.Given as goal
 

@@ -1,6 +1,5 @@
 -- `limits::limits_from` meets its contract, by what it is told of each limit. Assumes nothing.
 use Rattle.evaluating.specs.Steps.{limits_from}
-use Rattle.std.proofs.Common.{rules}
 use Rattle.evaluating.proofs.limits.limits_from.Goals as goal
 
 pub returns : goal.returns

@@ -1,5 +1,5 @@
 -- `limits::measure` meets its contract: the limits are those of the series as they stand at the front of the slices. Assumes nothing.
-use Rattle.std.proofs.Common.{length, ◌∙◌, ap₂, arith, rules}
+use Rattle.std.proofs.Common.{length, ◌∙◌, ap₂, arith}
 use lib.Ieee.{Float}
 use Rattle.charts.proofs.Held.{own_of}
 use Rattle.evaluating.specs.Asked.{asked}

@@ -1,7 +1,6 @@
 -- `marks::count` meets its contract: what is counted and what is left give the whole. Assumes nothing.
-use Rattle.std.proofs.Common.{◌≡◌, ◌+◌, ◌-◌, ◌*◌, ◌≤◌, length, get_or, drop, zero-add, arith, rules}
+use Rattle.std.proofs.Common.{◌≤◌, get_or, zero-add, arith}
 use lib.Count.{ones, ones-le}
-use Rattle.evaluating.specs.Steps.{ones_in}
 use Rattle.evaluating.proofs.Counting.{count-more, count-done}
 use Rattle.evaluating.proofs.marks.count.Goals.{After-shared_slice_known-1}
 use Rattle.evaluating.proofs.marks.count.Goals as goal

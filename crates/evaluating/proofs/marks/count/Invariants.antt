@@ -1,8 +1,6 @@
 -- `marks::count` meets its contract: what is counted and what is left give the whole. Assumes nothing.
-use Rattle.std.proofs.Common.{◌≡◌, ◌+◌, ◌-◌, ◌*◌, ◌≤◌, length, get_or, drop, zero-add, arith, rules}
-use lib.Count.{ones, ones-le}
+use Rattle.std.proofs.Common.{◌≡◌, ◌+◌, ◌-◌, ◌*◌, ◌≤◌, length, drop}
 use Rattle.evaluating.specs.Steps.{ones_in}
-use Rattle.evaluating.proofs.Counting.{count-more, count-done}
 use Rattle.evaluating.proofs.marks.count.Given as goal
 
 abbrev pub invariant-loop-i : goal.invariant-loop-i

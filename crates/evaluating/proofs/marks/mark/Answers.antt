@@ -1,5 +1,5 @@
 -- `marks::mark` meets its contract: marking refuses nothing, and the marks written are counted. Assumes nothing.
-use Rattle.std.proofs.Common.{length, sym, ◌∙◌, arith, rules}
+use Rattle.std.proofs.Common.{length, sym, ◌∙◌, arith}
 use Rattle.rules.specs.Terms.{under}
 use Rattle.rules.proofs.Accepted.{was-accepted, was-done, marks-written}
 use Rattle.evaluating.proofs.Counting.{front-few, marks-counted}

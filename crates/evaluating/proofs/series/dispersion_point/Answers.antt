@@ -1,5 +1,5 @@
 -- `series::dispersion_point` meets its contract, by kind. Assumes nothing.
-use Rattle.std.proofs.Common.{◌≡◌, ◌+◌, ◌<◌, length, arith, rules}
+use Rattle.std.proofs.Common.{◌≡◌, ◌+◌, ◌<◌, length, arith}
 use Rattle.evaluating.proofs.SeriesPoints.{moving-reach, Reach, reach, dispersion-1, dispersion-2, dispersion-3}
 use Rattle.evaluating.proofs.series.dispersion_point.Goals.{Start}
 use Rattle.evaluating.proofs.series.dispersion_point.Goals as goal

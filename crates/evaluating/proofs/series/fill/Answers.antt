@@ -1,6 +1,6 @@
 -- `series::fill` meets its contract. The points are written one after the other. Assumes nothing.
-use Rattle.std.proofs.Common.{◌-◌, arith, rules}
-use Rattle.laws.proofs.Filling.{Tabling, tabling-starts, tabling-length, tabling-room, tabling-goes-on, tabling-ends}
+use Rattle.std.proofs.Common.{arith}
+use Rattle.laws.proofs.Filling.{tabling-starts, tabling-room, tabling-goes-on, tabling-ends}
 use Rattle.evaluating.specs.Asked.{asked}
 use Rattle.evaluating.specs.Series.{point_at, points_in, series_of}
 use Rattle.evaluating.proofs.series.fill.Goals as goal

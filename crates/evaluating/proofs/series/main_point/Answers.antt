@@ -1,5 +1,5 @@
 -- `series::main_point` meets its contract, by kind. Assumes nothing.
-use Rattle.std.proofs.Common.{◌<◌, length, refl, arith, rules}
+use Rattle.std.proofs.Common.{◌<◌, length, refl, arith}
 use Rattle.evaluating.proofs.SeriesPoints.{main-reach, Reach, reach, main-1, main-mean}
 use Rattle.evaluating.proofs.series.main_point.Goals.{Start}
 use Rattle.evaluating.proofs.series.main_point.Goals as goal

@@ -1,5 +1,5 @@
 -- `series::points_in` meets its contract: there is one moving range fewer than observations, and none of none. Assumes nothing.
-use Rattle.std.proofs.Common.{sym, arith, rules}
+use Rattle.std.proofs.Common.{sym, arith}
 use Rattle.evaluating.proofs.SeriesPoints.{points-main, points-subgroups, points-moving}
 use Rattle.evaluating.proofs.series.points_in.Goals as goal
 

@@ -1,10 +1,10 @@
 -- `sigma::centre` meets its contract: refused ahead of the arithmetic, or for a point or limit, or the centre line. Assumes nothing.
-use Rattle.std.proofs.Common.{◌≡◌, false, sym, ap, ◌∙◌, rules}
+use Rattle.std.proofs.Common.{◌≡◌, false, sym, ap, ◌∙◌}
 use borrow.Author.Tests.{not-true, not-false}
 use Rattle.laws.specs.Refusals.{first_of}
 use Rattle.charts.specs.declared.Refusal.TheVariants.{Overflow}
 use Rattle.evaluating.specs.declared.limits.Measured.{Measured}
-use Rattle.evaluating.specs.Asked.{Asked, asked}
+use Rattle.evaluating.specs.Asked.{asked}
 use Rattle.evaluating.specs.Series.{by_series}
 use Rattle.evaluating.specs.Limits.{dispersion_limits, limits_of}
 use Rattle.evaluating.specs.Evaluating.{sound}

@@ -1,5 +1,5 @@
 -- `sigma::df_of` meets its contract, by kind. Assumes nothing.
-use Rattle.std.proofs.Common.{sym, arith, rules}
+use Rattle.std.proofs.Common.{sym, arith}
 use lib.Ieee.{of_bits, round}
 use Rattle.charts.proofs.Cases.{kind_1, kind_2, kind_3}
 use Rattle.charts.proofs.Held.{column}

@@ -1,5 +1,5 @@
 -- `sigma::measure` meets its contract: its arrays are long enough for the chart. Assumes nothing.
-use Rattle.std.proofs.Common.{length, arith, rules}
+use Rattle.std.proofs.Common.{length, arith}
 use Rattle.charts.proofs.Held.{held}
 use Rattle.evaluating.proofs.SeriesPoints.{points-most}
 use Rattle.evaluating.proofs.sigma.measure.Goals as goal

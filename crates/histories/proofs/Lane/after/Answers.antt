@@ -3,7 +3,6 @@ use mathlib.Core.Path.{refl}
 use Rattle.rules.specs.Tests.{steps}
 use Rattle.rules.specs.Columns.{signs}
 use Rattle.histories.specs.Lanes.{kept, after}
-use borrow.Author.Rules.{rules}
 use Rattle.histories.proofs.Lane.after.Goals as goal
 
 pub returns : goal.returns

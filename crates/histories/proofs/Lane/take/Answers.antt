@@ -3,14 +3,12 @@ use mathlib.Core.Path.{◌≡◌, sym, ap, ◌∙◌}
 use mathlib.Core.Bool.{true, false}
 use Prim.Native.Nat.{ℕ}
 use native.Mathlib.Nat.{min-le_right}
-use borrow.Author.Tests.{not-true, not-false}
 use Rattle.floats.specs.Finite.{finite}
 use Rattle.rules.specs.declared.Lines.{Lines}
 use Rattle.rules.specs.Finite.{finite_limits}
 use Rattle.histories.specs.Lanes.{after}
 use Rattle.histories.specs.Taking.{marked}
 use Rattle.histories.proofs.Answers.{set-refused, mode-refused, limits-refused, value-refused, value_taken}
-use borrow.Author.Rules.{rules}
 use Rattle.histories.proofs.Lane.take.Goals as goal
 
 pub returns-then-set-gt-ALL : goal.returns-then-set-gt-ALL

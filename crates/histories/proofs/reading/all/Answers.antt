@@ -1,5 +1,4 @@
 -- `histories::reading::all` meets its contract: a mask that is full. Assumes nothing.
-use borrow.Author.Rules.{rules}
 use Rattle.histories.proofs.Bits.{all-judged}
 use Rattle.histories.proofs.reading.all.Goals as goal
 

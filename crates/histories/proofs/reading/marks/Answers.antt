@@ -1,6 +1,5 @@
 -- `histories::reading::marks` meets its contract: the tests that stand, of the set, whose window fits. Assumes nothing.
 use Rattle.histories.proofs.Marks.{marks-read}
-use borrow.Author.Rules.{rules}
 use Rattle.histories.proofs.reading.marks.Goals as goal
 
 pub returns : goal.returns

@@ -4,7 +4,6 @@ use Prim.Native.Nat.{ℕ, ◌-◌}
 use native.Mathlib.Omega.{arith}
 use lib.Pow.{pow_pos}
 use Rattle.laws.proofs.OneBit.{one_shl}
-use borrow.Author.Rules.{rules}
 use Rattle.histories.proofs.reading.newest.Goals as goal
 
 pub overflow_sub-result : goal.overflow_sub-result

@@ -2,7 +2,6 @@
 use mathlib.Core.List.{[], ◌∷◌}
 use native.Mathlib.Omega.{arith}
 use Rattle.laws.proofs.Bits.{or-bits}
-use borrow.Author.Rules.{rules}
 use Rattle.histories.proofs.reading.pack.Goals as goal
 
 pub returns : goal.returns

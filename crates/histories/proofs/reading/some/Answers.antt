@@ -1,5 +1,4 @@
 -- `histories::reading::some` meets its contract: a count of ones. Assumes nothing.
-use borrow.Author.Rules.{rules}
 use Rattle.histories.proofs.Bits.{some-judged}
 use Rattle.histories.proofs.reading.some.Goals as goal
 

@@ -3,7 +3,6 @@ use mathlib.Core.Path.{refl}
 use Rattle.sets.specs.Sets.{tests, set_of}
 use Rattle.rules.specs.Columns.{rule_of, up_of, down_of}
 use Rattle.histories.specs.Lanes.{kept}
-use borrow.Author.Rules.{rules}
 use Rattle.histories.proofs.reading.standing.Goals as goal
 
 pub returns : goal.returns

@@ -1,6 +1,5 @@
 -- `lists::ours::bits` meets its contract. Assumes nothing.
 use mathlib.Core.Path.{sym, ap}
-use borrow.Author.Rules.{rules}
 use lib.Ieee.{Float, binary64, to_bits}
 use Rattle.floats.proofs.Nan.{is-nan, no_nan}
 use Rattle.lists.proofs.ours.bits.Goals as goal

@@ -1,14 +1,11 @@
 -- `lists::ours::floats_are` meets its contract. The invariant of its loop: the entries from `i` on say what those from `from` on do. The measure is what
 -- is left of them. Assumes nothing.
-use mathlib.Core.Path.{◌≡◌, refl, sym, ◌∙◌}
-use Prim.Native.Nat.{◌-◌}
+use mathlib.Core.Path.{refl, sym, ◌∙◌}
 use native.Mathlib.Omega.{arith}
 use lib.Ieee.{binary64, to_bits, nan}
-use lib.ListN.{length, length-map}
-use Rattle.lists.specs.Ours.{all_bits, all_are}
+use lib.ListN.{length-map}
 use Rattle.lists.proofs.Matching.{entry_of}
 use Rattle.lists.proofs.Alike.{next-is-not, next-is, none_left}
-use borrow.Author.Rules.{rules}
 use Rattle.lists.proofs.ours.floats_are.Goals as goal
 
 pub loop-i-init : goal.loop-i-init

@@ -1,11 +1,7 @@
 -- `lists::ours::marks_are` meets its contract. The invariant of its loop: the entries from `i` on say what those from `from` on do. The measure is what
 -- is left of them. Assumes nothing.
-use mathlib.Core.Path.{◌≡◌, refl, sym, ◌∙◌}
-use Prim.Native.Nat.{◌-◌}
-use lib.ListN.{length}
-use Rattle.lists.specs.Ours.{all_are}
+use mathlib.Core.Path.{refl, sym, ◌∙◌}
 use Rattle.lists.proofs.Alike.{next-is-not, next-is, none_left}
-use borrow.Author.Rules.{rules}
 use Rattle.lists.proofs.ours.marks_are.Goals as goal
 
 pub loop-i-init : goal.loop-i-init

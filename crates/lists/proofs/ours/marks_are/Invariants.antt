@@ -1,11 +1,9 @@
 -- `lists::ours::marks_are` meets its contract. The invariant of its loop: the entries from `i` on say what those from `from` on do. The measure is what
 -- is left of them. Assumes nothing.
-use mathlib.Core.Path.{◌≡◌, refl, sym, ◌∙◌}
+use mathlib.Core.Path.{◌≡◌}
 use Prim.Native.Nat.{◌-◌}
 use lib.ListN.{length}
 use Rattle.lists.specs.Ours.{all_are}
-use Rattle.lists.proofs.Alike.{next-is-not, next-is, none_left}
-use borrow.Author.Rules.{rules}
 use Rattle.lists.proofs.ours.marks_are.Given as goal
 
 abbrev pub invariant-loop-i : goal.invariant-loop-i

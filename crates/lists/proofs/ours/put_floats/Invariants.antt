@@ -1,14 +1,9 @@
 -- `lists::ours::put_floats` meets its contract. The invariant of its loop: the first of them were put. The measure is how many are left.
 -- Assumes nothing.
 use Prim.Native.Nat.{◌-◌}
-use mathlib.Core.Path.{◌∙◌}
-use native.Mathlib.Omega.{arith}
-use lib.Ieee.{binary64, to_bits, nan}
-use lib.ListN.{length, length-map}
+use lib.ListN.{length}
 use Rattle.lists.specs.Ours.{all_bits}
-use Rattle.lists.proofs.Matching.{entry_of}
-use Rattle.lists.proofs.Putting.{Putting, putting-starts, putting-goes-on, putting-ends}
-use borrow.Author.Rules.{rules}
+use Rattle.lists.proofs.Putting.{Putting}
 use Rattle.lists.proofs.ours.put_floats.Given as goal
 
 abbrev pub invariant-loop-i : goal.invariant-loop-i

@@ -1,11 +1,8 @@
 -- `lists::ours::put_marks` meets its contract. The invariant of its loop: the first of them were put. The measure is how many are left.
 -- Assumes nothing.
-use Prim.Native.Nat.{◌-◌}
 use mathlib.Core.Path.{refl}
 use native.Mathlib.Omega.{arith}
-use lib.ListN.{length}
-use Rattle.lists.proofs.Putting.{Putting, putting-starts, putting-goes-on, putting-ends}
-use borrow.Author.Rules.{rules}
+use Rattle.lists.proofs.Putting.{putting-starts, putting-goes-on, putting-ends}
 use Rattle.lists.proofs.ours.put_marks.Goals as goal
 
 pub loop-i-init : goal.loop-i-init

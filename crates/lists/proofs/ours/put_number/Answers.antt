@@ -3,7 +3,6 @@ use mathlib.Core.Path.{sym, ap, ◌∙◌}
 use native.Mathlib.Omega.{arith}
 use Rattle.groups.specs.Groups.{written}
 use Rattle.lists.proofs.Putting.{put-fits, put_one, put-short}
-use borrow.Author.Rules.{rules}
 use Rattle.lists.proofs.ours.put_number.Goals as goal
 
 pub returns-then-out-at : goal.returns-then-out-at

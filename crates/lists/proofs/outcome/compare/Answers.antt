@@ -1,11 +1,8 @@
 -- `lists::outcome::compare` meets its contract. The invariant of its loop: the entries that were passed match. The measure is what is left of them.
 -- Assumes nothing.
-use Prim.Native.Nat.{◌-◌}
 use mathlib.Core.Path.{refl}
 use native.Mathlib.Omega.{arith}
-use lib.ListN.{length}
-use Rattle.lists.proofs.Matching.{Matching, matching-starts, matching-goes-on, matching-parts, matching-ends}
-use borrow.Author.Rules.{rules}
+use Rattle.lists.proofs.Matching.{matching-starts, matching-goes-on, matching-parts, matching-ends}
 use Rattle.lists.proofs.outcome.compare.Goals as goal
 
 pub loop-i-init : goal.loop-i-init

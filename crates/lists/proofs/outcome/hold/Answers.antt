@@ -1,6 +1,5 @@
 -- `lists::outcome::hold` meets its contract. Assumes nothing.
 use Rattle.lists.proofs.Outcomes.{compared-only}
-use borrow.Author.Rules.{rules}
 use Rattle.lists.proofs.outcome.hold.Goals as goal
 
 pub returns : goal.returns

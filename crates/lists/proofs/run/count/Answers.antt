@@ -1,6 +1,5 @@
 -- `lists::run::count` meets its contract. Assumes nothing.
 use borrow.Author.Tests.{lt-ltb, le-ltb}
-use borrow.Author.Rules.{rules}
 use Rattle.lists.proofs.run.count.Goals as goal
 
 pub returns-then-n-most : goal.returns-then-n-most

@@ -1,10 +1,6 @@
 -- `columns::fill_all` meets its contract: the entries of all are written one after the other, and each point is asked. Assumes nothing.
-use Prim.Native.Nat.{◌-◌}
-use lib.ListN.{length}
-use Rattle.laws.proofs.Filling.{tabling-length, tabling-room}
-use Rattle.points.specs.Steps.{plot_by}
-use Rattle.points.proofs.Filled.{Columns, columns-start, columns-go-on, columns-end}
-use borrow.Author.Rules.{rules}
+use Rattle.laws.proofs.Filling.{tabling-room}
+use Rattle.points.proofs.Filled.{columns-start, columns-go-on, columns-end}
 use Rattle.points.proofs.columns.fill_all.Goals as goal
 
 pub loop-i-init : goal.loop-i-init

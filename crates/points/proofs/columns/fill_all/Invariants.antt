@@ -1,10 +1,8 @@
 -- `columns::fill_all` meets its contract: the entries of all are written one after the other, and each point is asked. Assumes nothing.
 use Prim.Native.Nat.{◌-◌}
 use lib.ListN.{length}
-use Rattle.laws.proofs.Filling.{tabling-length, tabling-room}
 use Rattle.points.specs.Steps.{plot_by}
-use Rattle.points.proofs.Filled.{Columns, columns-start, columns-go-on, columns-end}
-use borrow.Author.Rules.{rules}
+use Rattle.points.proofs.Filled.{Columns}
 use Rattle.points.proofs.columns.fill_all.Given as goal
 
 abbrev pub invariant-loop-i : goal.invariant-loop-i

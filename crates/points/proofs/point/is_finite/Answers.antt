@@ -1,7 +1,6 @@
 -- `point::is_finite` meets its contract: the three are asked one by one. Assumes nothing.
 use mathlib.Core.Path.{ap₂}
 use mathlib.Core.Bool.{◌&&◌}
-use borrow.Author.Rules.{rules}
 use Rattle.points.proofs.point.is_finite.Goals as goal
 
 pub returns : goal.returns

@@ -1,10 +1,7 @@
 -- `zeros::no` meets its contract: the slice is filled with one value. Assumes nothing.
-use Prim.Native.Nat.{◌-◌}
 use native.Mathlib.Omega.{arith}
-use lib.ListN.{length}
-use Rattle.laws.proofs.OneValue.{OneValue, one-value-starts, one-value-length, one-value-goes-on, one-value-ends}
+use Rattle.laws.proofs.OneValue.{one-value-starts, one-value-length, one-value-goes-on, one-value-ends}
 use mathlib.Core.Bool.{false}
-use borrow.Author.Rules.{rules}
 use Rattle.points.proofs.zeros.no.Goals as goal
 
 pub loop-i-init : goal.loop-i-init

@@ -1,10 +1,8 @@
 -- `zeros::zero` meets its contract: the slice is filled with one value. Assumes nothing.
 use Prim.Native.Nat.{◌-◌}
-use native.Mathlib.Omega.{arith}
 use lib.ListN.{length}
-use Rattle.laws.proofs.OneValue.{OneValue, one-value-starts, one-value-length, one-value-goes-on, one-value-ends}
+use Rattle.laws.proofs.OneValue.{OneValue}
 use Rattle.floats.specs.Values.{plus_zero}
-use borrow.Author.Rules.{rules}
 use Rattle.points.proofs.zeros.zero.Given as goal
 
 abbrev pub invariant-loop-i : goal.invariant-loop-i

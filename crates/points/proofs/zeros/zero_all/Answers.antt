@@ -1,5 +1,4 @@
 -- `zeros::zero_all` meets its contract, slice by slice. Assumes nothing.
-use borrow.Author.Rules.{rules}
 use Rattle.points.proofs.zeros.zero_all.Goals as goal
 
 pub returns : goal.returns

@@ -2,7 +2,6 @@
 use mathlib.Core.Path.{◌≡◌}
 use Prim.Native.Nat.{◌-◌}
 use lib.ListN.{length}
-use borrow.Author.Rules.{rules}
 use Rattle.replay_attributes.proofs.adding.add_all.Given as goal
 
 abbrev pub invariant-loop-i : goal.invariant-loop-i

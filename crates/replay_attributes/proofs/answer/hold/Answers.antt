@@ -10,7 +10,6 @@ use Prim.Native.Nat.{ℕ, ◌-◌}
 use native.Mathlib.Nat.{sub-zero}
 use lib.ListN.{take}
 use Rattle.lists.proofs.Outcomes.{only_then}
-use borrow.Author.Rules.{rules}
 use Rattle.replay_attributes.proofs.answer.hold.Goals as goal
 
 front-is : (n : ℕ) (l : List ℕ) → take n l ≡ take (n - 0) l

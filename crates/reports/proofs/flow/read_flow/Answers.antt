@@ -5,7 +5,6 @@ use borrow.Author.Tests.{lt-ltb, le-ltb}
 use lib.ListN.{length}
 use Rattle.reports.specs.Flow.{flow_of}
 use Rattle.reports.specs.Steps.{after_head, LegalHead}
-use borrow.Author.Rules.{rules}
 use Rattle.reports.proofs.flow.read_flow.Goals as goal
 
 pub returns-then-s-gt24576 : goal.returns-then-s-gt24576

@@ -1,7 +1,6 @@
 -- `flow::read_head` meets its contract: its numbers are those of `head_from`, in the same order. Assumes nothing.
 use mathlib.Core.Path.{◌≡◌, sym, ap, ◌∙◌, transport}
 use mathlib.Core.Bool.{false, not}
-use mathlib.Core.List.{List}
 use Prim.Native.Nat.{ℕ}
 use borrow.Author.Tests.{lt-ltb, le-ltb}
 use Rattle.laws.proofs.Bools.{told}
@@ -14,7 +13,6 @@ use Rattle.reports.specs.Steps.{Legal, after_head}
 use Rattle.reports.specs.Flow.{refused, count_wrong, head_from}
 use Rattle.groups.proofs.Onward.{no_number, out-of-place}
 use Rattle.reports.proofs.Heads.{Passed, goes, after_kind, after_size, after_set, after_count, chart-made, none_made, legal}
-use borrow.Author.Rules.{rules}
 use Rattle.reports.proofs.flow.read_head.Goals.{Else-count_wrong, Else-kind_wrong, Else-set, In-Done}
 use Rattle.reports.proofs.flow.read_head.Goals as goal
 

@@ -1,10 +1,8 @@
 -- `text::decimal_len` meets its contract: one is counted for the digits that are left. Assumes nothing.
 use Prim.Native.Nat.{◌+◌}
-use native.Mathlib.Omega.{arith}
 use mathlib.Core.Path.{◌≡◌}
 use lib.ListN.{length}
 use Rattle.reports.specs.Text.{decimal}
-use Rattle.reports.proofs.Digits.{length-one, length_more, decimal-some, below_power}
 use Rattle.reports.proofs.text.decimal_len.Given as goal
 
 abbrev pub invariant-loop-rest : goal.invariant-loop-rest

@@ -1,7 +1,6 @@
 -- `text::glyph` meets its contract. Assumes nothing.
 use borrow.Author.Tests.{lt-ltb, le-ltb}
 use Rattle.reports.specs.Text.{glyph}
-use borrow.Author.Rules.{rules}
 use Rattle.reports.proofs.text.glyph.Goals as goal
 
 pub returns-then-d-lt10 : goal.returns-then-d-lt10

@@ -4,7 +4,6 @@ use mathlib.Core.Path.{ap}
 use lib.Bits.{and_mask}
 use lib.Dec.{eqb}
 use Rattle.laws.specs.Bits.{has_bit}
-use borrow.Author.Rules.{rules}
 use Rattle.reports.proofs.text.has_bit.Goals as goal
 
 pub returns : goal.returns

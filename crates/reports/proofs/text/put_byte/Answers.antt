@@ -1,6 +1,5 @@
 -- `text::put_byte` meets its contract. Assumes nothing.
 use Rattle.reports.proofs.Putting.{byte_past, byte-written, byte-counted}
-use borrow.Author.Rules.{rules}
 use Rattle.reports.proofs.text.put_byte.Goals as goal
 
 pub returns-then-out-at : goal.returns-then-out-at

@@ -4,7 +4,6 @@ use Rattle.reports.specs.Text.{line}
 use Rattle.reports.specs.TextSteps.{Put, words_from}
 use Rattle.reports.proofs.Charts.{chart-lines}
 use Rattle.reports.proofs.Putting.{put_as, put_both}
-use borrow.Author.Rules.{rules}
 use Rattle.reports.proofs.text.put_chart.Goals as goal
 
 pub returns : goal.returns

@@ -1,7 +1,6 @@
 -- `text::put_limits` meets its contract: the series, and the patterns of the limits. Assumes nothing.
 use Rattle.reports.proofs.Limits.{limits-no-nan, limits-line}
 use Rattle.reports.proofs.Putting.{put_as}
-use borrow.Author.Rules.{rules}
 use Rattle.reports.proofs.text.put_limits.Goals as goal
 
 pub float_to_bits-numbers : goal.float_to_bits-numbers

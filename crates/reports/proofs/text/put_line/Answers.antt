@@ -1,10 +1,7 @@
 -- `text::put_line` meets its contract: the words from i on are to come. Assumes nothing.
-use Prim.Native.Nat.{◌-◌}
-use mathlib.Core.Path.{refl, ◌∙◌}
-use lib.ListN.{length}
-use Rattle.reports.proofs.Putting.{Coming, put_both, coming-starts, coming-same, coming-on, coming-last, coming-length}
-use Rattle.reports.proofs.Words.{words_left, words-next, words_last}
-use borrow.Author.Rules.{rules}
+use mathlib.Core.Path.{refl}
+use Rattle.reports.proofs.Putting.{put_both, coming-starts, coming-same, coming-on, coming-last}
+use Rattle.reports.proofs.Words.{words-next, words_last}
 use Rattle.reports.proofs.text.put_line.Goals as goal
 
 pub loop-i-init : goal.loop-i-init

@@ -1,11 +1,8 @@
 -- `text::put_marks` meets its contract: the lines of the points from i on are to come. Assumes nothing.
-use Prim.Native.Nat.{◌-◌}
 use mathlib.Core.Path.{sym, ap}
-use lib.ListN.{length}
-use Rattle.reports.specs.Text.{v_lines, listed}
-use Rattle.reports.proofs.Marks.{listed_from, listed-all, point-lines, point-off, lines_end}
-use Rattle.reports.proofs.Putting.{Coming, coming-starts, coming-same, coming-on, coming-ends, coming-length}
-use borrow.Author.Rules.{rules}
+use Rattle.reports.specs.Text.{v_lines}
+use Rattle.reports.proofs.Marks.{listed-all, point-lines, point-off, lines_end}
+use Rattle.reports.proofs.Putting.{coming-starts, coming-same, coming-on, coming-ends}
 use Rattle.reports.proofs.text.put_marks.Goals as goal
 
 pub loop-i-init : goal.loop-i-init

@@ -1,11 +1,9 @@
 -- `text::put_marks` meets its contract: the lines of the points from i on are to come. Assumes nothing.
 use Prim.Native.Nat.{◌-◌}
-use mathlib.Core.Path.{sym, ap}
 use lib.ListN.{length}
 use Rattle.reports.specs.Text.{v_lines, listed}
-use Rattle.reports.proofs.Marks.{listed_from, listed-all, point-lines, point-off, lines_end}
-use Rattle.reports.proofs.Putting.{Coming, coming-starts, coming-same, coming-on, coming-ends, coming-length}
-use borrow.Author.Rules.{rules}
+use Rattle.reports.proofs.Marks.{listed_from}
+use Rattle.reports.proofs.Putting.{Coming}
 use Rattle.reports.proofs.text.put_marks.Given as goal
 
 abbrev pub invariant-loop-i : goal.invariant-loop-i

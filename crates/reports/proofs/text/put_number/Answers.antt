@@ -4,7 +4,6 @@ use mathlib.Core.Path.{ap, ◌∙◌}
 use Rattle.reports.specs.Text.{digits}
 use Rattle.reports.proofs.Putting.{put_as}
 use Rattle.reports.proofs.Words.{word-hex, word-decimal}
-use borrow.Author.Rules.{rules}
 use Rattle.reports.proofs.text.put_number.Goals as goal
 
 pub returns-then-hex : goal.returns-then-hex

@@ -1,10 +1,7 @@
 -- `text::put_point` meets its contract: the lines of the tests from t on are to come. Assumes nothing.
-use Prim.Native.Nat.{◌-◌}
 use mathlib.Core.Path.{refl, sym, ◌∙◌}
-use Rattle.reports.specs.Text.{v_lines}
-use Rattle.reports.proofs.Marks.{marks_from, lines-on, lines-off, lines-done}
-use Rattle.reports.proofs.Putting.{Coming, coming-starts, coming-same, coming-on, coming-ends, coming-length}
-use borrow.Author.Rules.{rules}
+use Rattle.reports.proofs.Marks.{lines-on, lines-off, lines-done}
+use Rattle.reports.proofs.Putting.{coming-starts, coming-same, coming-on, coming-ends}
 use Rattle.reports.proofs.text.put_point.Goals as goal
 
 pub loop-t-init : goal.loop-t-init

@@ -1,10 +1,8 @@
 -- `text::put_point` meets its contract: the lines of the tests from t on are to come. Assumes nothing.
 use Prim.Native.Nat.{◌-◌}
-use mathlib.Core.Path.{refl, sym, ◌∙◌}
 use Rattle.reports.specs.Text.{v_lines}
-use Rattle.reports.proofs.Marks.{marks_from, lines-on, lines-off, lines-done}
-use Rattle.reports.proofs.Putting.{Coming, coming-starts, coming-same, coming-on, coming-ends, coming-length}
-use borrow.Author.Rules.{rules}
+use Rattle.reports.proofs.Marks.{marks_from}
+use Rattle.reports.proofs.Putting.{Coming}
 use Rattle.reports.proofs.text.put_point.Given as goal
 
 abbrev pub invariant-loop-t : goal.invariant-loop-t

@@ -2,7 +2,6 @@
 use mathlib.Core.Path.{refl}
 use Rattle.reports.specs.TextSteps.{words_from}
 use Rattle.reports.proofs.Putting.{put_as}
-use borrow.Author.Rules.{rules}
 use Rattle.reports.proofs.text.put_refusal.Goals as goal
 
 pub returns : goal.returns

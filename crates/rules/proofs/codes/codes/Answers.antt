@@ -1,6 +1,5 @@
 -- `rules::codes::codes` meets its contract: the codes of few values are those of the values padded. Assumes nothing.
 use native.Mathlib.Omega.{arith}
-use borrow.Author.Rules.{rules}
 use Rattle.rules.proofs.Making.{codes-padded}
 use Rattle.rules.proofs.codes.codes.Goals as goal
 

@@ -1,5 +1,4 @@
 -- `rules::codes::families` meets its contract: each family puts its bits into the codes. Assumes nothing.
-use borrow.Author.Rules.{rules}
 use Rattle.rules.proofs.Making.{codes-by}
 use Rattle.rules.proofs.codes.families.Goals as goal
 

@@ -1,13 +1,9 @@
 -- `rules::codes::fit` meets its contract: the marks are masked one after the other. Assumes nothing.
-use mathlib.Core.Path.{ap}
-use Prim.Native.Nat.{ℕ, ◌+◌, ◌-◌}
-use native.Mathlib.Omega.{arith}
-use borrow.Author.Rules.{rules}
+use Prim.Native.Nat.{◌+◌, ◌-◌}
 use lib.Bits.{bit_and}
 use lib.ListN.{get_or}
-use Rattle.laws.proofs.Filling.{Tabling, tabling-starts, tabling-length, tabling-room, tabling-goes-on, tabling-ends}
+use Rattle.laws.proofs.Filling.{Tabling}
 use Rattle.rules.specs.Codes.{fits_at}
-use Rattle.rules.proofs.Making.{tabling-next}
 use Rattle.rules.proofs.codes.fit.Given as goal
 
 abbrev pub invariant-loop-i : goal.invariant-loop-i

@@ -1,5 +1,4 @@
 -- `rules::codes::inside_code` meets its contract. Assumes nothing.
-use borrow.Author.Rules.{rules}
 use Rattle.rules.specs.Codes.{inside_code}
 use Rattle.rules.proofs.codes.inside_code.Goals as goal
 

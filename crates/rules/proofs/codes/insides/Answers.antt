@@ -1,13 +1,10 @@
 -- `rules::codes::insides` meets its contract: sixteen codes at a time. Assumes nothing.
 use mathlib.Core.Path.{◌≡◌, refl}
 use mathlib.Core.Bool.{true, false}
-use Prim.Native.Nat.{◌-◌}
 use native.Mathlib.Omega.{arith}
 use borrow.Author.Rules.{rules}
-use borrow.Author.Tests.{not-true, not-false}
-use lib.ListN.{length}
-use Rattle.rules.specs.Codes.{inside_code, inside_at}
-use Rattle.rules.proofs.Making.{added_none, Adding, adding-starts, adding-next, adding-ends}
+use Rattle.rules.specs.Codes.{inside_code}
+use Rattle.rules.proofs.Making.{added_none, adding-starts, adding-next, adding-ends}
 use Rattle.rules.proofs.Parts.{sixteen-long, sixteen-room}
 use Rattle.rules.proofs.codes.insides.Goals as goal
 

@@ -1,10 +1,6 @@
 -- `rules::codes::insides_of` meets its contract: one code after the other. Assumes nothing.
-use mathlib.Core.Bool.{true}
-use Prim.Native.Nat.{◌-◌}
 use native.Mathlib.Omega.{arith}
-use borrow.Author.Rules.{rules}
-use Rattle.rules.specs.Codes.{inside_at}
-use Rattle.rules.proofs.Making.{Adding, adding-starts, adding-one, adding-ends, clear-zeros, coded}
+use Rattle.rules.proofs.Making.{adding-starts, adding-one, adding-ends, clear-zeros, coded}
 use Rattle.rules.proofs.codes.insides_of.Goals as goal
 
 pub loop-j-init : goal.loop-j-init

@@ -1,10 +1,7 @@
 -- `rules::codes::join` meets its contract: one code after the other. Assumes nothing.
 use mathlib.Core.Path.{refl}
-use Prim.Native.Nat.{◌-◌}
 use native.Mathlib.Omega.{arith}
-use borrow.Author.Rules.{rules}
-use lib.ListN.{get_or}
-use Rattle.rules.proofs.Making.{Adding, adding-starts, adding-one, adding-ends}
+use Rattle.rules.proofs.Making.{adding-starts, adding-one, adding-ends}
 use Rattle.rules.proofs.codes.join.Goals as goal
 
 pub loop-j-init : goal.loop-j-init

@@ -1,12 +1,9 @@
 -- `rules::codes::mark_beyond` meets its contract. The marks are written one after the other. Assumes nothing.
 use Prim.Native.Nat.{◌-◌}
-use native.Mathlib.Omega.{arith}
-use borrow.Author.Rules.{rules}
 use lib.ListN.{length}
-use Rattle.laws.proofs.Filling.{Tabling, tabling-starts, tabling-length, tabling-room, tabling-goes-on, tabling-ends}
+use Rattle.laws.proofs.Filling.{Tabling}
 use Rattle.stops.specs.Cuts.{unbroken}
 use Rattle.rules.specs.Marking.{marks_at}
-use Rattle.rules.proofs.Single.{marks-single}
 use Rattle.rules.proofs.codes.mark_beyond.Given as goal
 
 abbrev pub invariant-loop-i : goal.invariant-loop-i

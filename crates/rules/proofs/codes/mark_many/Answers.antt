@@ -2,9 +2,8 @@
 use mathlib.Core.Path.{◌≡◌, ap, ◌∙◌}
 use Prim.Native.Nat.{◌+◌, ◌-◌, ◌≤◌}
 use native.Mathlib.Omega.{arith}
-use borrow.Author.Rules.{rules}
 use lib.ListN.{length}
-use Rattle.laws.proofs.Filling.{Tabling, tabling-starts, tabling-length, tabling-ends}
+use Rattle.laws.proofs.Filling.{tabling-starts, tabling-ends}
 use Rattle.stops.specs.Cuts.{unbroken}
 use Rattle.rules.specs.Marking.{marks_at}
 use Rattle.rules.proofs.Blocks.{marks-part, goes_back}

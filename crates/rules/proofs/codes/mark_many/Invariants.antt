@@ -1,15 +1,9 @@
 -- `rules::codes::mark_many` meets its contract: each block brings the next marks. Assumes nothing.
-use mathlib.Core.Path.{◌≡◌, ap, ◌∙◌}
-use Prim.Native.Nat.{◌+◌, ◌-◌, ◌≤◌}
-use native.Mathlib.Omega.{arith}
-use borrow.Author.Rules.{rules}
+use Prim.Native.Nat.{◌-◌}
 use lib.ListN.{length}
-use Rattle.laws.proofs.Filling.{Tabling, tabling-starts, tabling-length, tabling-ends}
+use Rattle.laws.proofs.Filling.{Tabling}
 use Rattle.stops.specs.Cuts.{unbroken}
 use Rattle.rules.specs.Marking.{marks_at}
-use Rattle.rules.proofs.Blocks.{marks-part, goes_back}
-use Rattle.rules.proofs.Making.{clear-zeros}
-use Rattle.rules.proofs.Parts.{part-long, part-start, part_room, part-fills}
 use Rattle.rules.proofs.codes.mark_many.Given as goal
 
 abbrev pub invariant-loop-at : goal.invariant-loop-at

@@ -1,11 +1,8 @@
 -- `rules::codes::pad` meets its contract: one value after the other. Assumes nothing.
 use mathlib.Core.Path.{refl, ◌∙◌}
-use Prim.Native.Nat.{◌-◌}
 use native.Mathlib.Omega.{arith}
-use borrow.Author.Rules.{rules}
 use lib.Ieee.{nan}
-use lib.ListN.{length}
-use Rattle.laws.proofs.Filling.{Filling, filling-starts, filling-length, filling-goes-on, filling-ends}
+use Rattle.laws.proofs.Filling.{filling-starts, filling-length, filling-goes-on, filling-ends}
 use Rattle.rules.proofs.codes.pad.Goals as goal
 
 pub loop-j-init : goal.loop-j-init

@@ -1,7 +1,6 @@
 -- `rules::codes::read_marks` meets its contract: a set that a mask leaves as it is has the marks that are read by the mask. Assumes nothing.
 use mathlib.Core.Path.{◌≡◌}
 use native.Mathlib.Omega.{arith}
-use borrow.Author.Rules.{rules}
 use lib.Bits.{bit_and}
 use Rattle.rules.proofs.codes.read_marks.Goals as goal
 

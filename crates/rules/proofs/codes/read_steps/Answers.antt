@@ -1,10 +1,6 @@
 -- `rules::codes::read_steps` meets its contract: the marks are written one after the other. Assumes nothing.
-use Prim.Native.Nat.{◌-◌}
 use native.Mathlib.Omega.{arith}
-use borrow.Author.Rules.{rules}
-use lib.Bits.{bit_and}
-use Rattle.laws.proofs.Filling.{Tabling, tabling-starts, tabling-length, tabling-room, tabling-ends}
-use Rattle.rules.specs.Codes.{marks_read}
+use Rattle.laws.proofs.Filling.{tabling-starts, tabling-room, tabling-ends}
 use Rattle.rules.proofs.Marks.{reads_on}
 use Rattle.rules.proofs.codes.read_steps.Goals as goal
 

@@ -1,11 +1,8 @@
 -- `rules::codes::read_steps` meets its contract: the marks are written one after the other. Assumes nothing.
 use Prim.Native.Nat.{◌-◌}
-use native.Mathlib.Omega.{arith}
-use borrow.Author.Rules.{rules}
 use lib.Bits.{bit_and}
-use Rattle.laws.proofs.Filling.{Tabling, tabling-starts, tabling-length, tabling-room, tabling-ends}
+use Rattle.laws.proofs.Filling.{Tabling}
 use Rattle.rules.specs.Codes.{marks_read}
-use Rattle.rules.proofs.Marks.{reads_on}
 use Rattle.rules.proofs.codes.read_steps.Given as goal
 
 abbrev pub invariant-loop-i : goal.invariant-loop-i

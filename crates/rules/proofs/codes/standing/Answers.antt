@@ -1,6 +1,5 @@
 -- `rules::codes::standing` meets its contract: its ands, ors and shifts are those of proofs/Bitwise.antt. Assumes nothing.
 use mathlib.Core.Path.{ap, ◌∙◌}
-use borrow.Author.Rules.{rules}
 use Rattle.laws.specs.Bits.{from_bits}
 use Rattle.rules.proofs.Bitwise.{standing-is}
 use Rattle.rules.proofs.codes.standing.Goals as goal

@@ -1,7 +1,6 @@
 -- `rules::codes::step_code` meets its contract. Assumes nothing.
 use mathlib.Core.Path.{ap₂}
 use lib.Bits.{bit_or}
-use borrow.Author.Rules.{rules}
 use Rattle.rules.specs.Codes.{step_code}
 use Rattle.rules.proofs.codes.step_code.Goals as goal
 

@@ -1,14 +1,10 @@
 -- `rules::codes::steps` meets its contract: sixteen codes at a time. Assumes nothing.
 use mathlib.Core.Path.{◌≡◌}
 use mathlib.Core.Bool.{true, false}
-use Prim.Native.Nat.{◌-◌}
 use native.Mathlib.Omega.{arith}
 use borrow.Author.Rules.{rules}
-use borrow.Author.Tests.{not-true, not-false}
-use lib.Ieee.{nan}
-use lib.ListN.{length, get_or}
-use Rattle.rules.specs.Codes.{step_code, step_at}
-use Rattle.rules.proofs.Making.{added_none, Adding, adding-starts, adding-next, adding-ends}
+use Rattle.rules.specs.Codes.{step_code}
+use Rattle.rules.proofs.Making.{added_none, adding-starts, adding-next, adding-ends}
 use Rattle.rules.proofs.Parts.{sixteen-long, sixteen-room}
 use Rattle.rules.proofs.codes.steps.Goals as goal
 

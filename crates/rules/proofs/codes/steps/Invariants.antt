@@ -1,15 +1,10 @@
 -- `rules::codes::steps` meets its contract: sixteen codes at a time. Assumes nothing.
-use mathlib.Core.Path.{◌≡◌}
-use mathlib.Core.Bool.{true, false}
+use mathlib.Core.Bool.{true}
 use Prim.Native.Nat.{◌-◌}
-use native.Mathlib.Omega.{arith}
-use borrow.Author.Rules.{rules}
-use borrow.Author.Tests.{not-true, not-false}
 use lib.Ieee.{nan}
 use lib.ListN.{length, get_or}
-use Rattle.rules.specs.Codes.{step_code, step_at}
-use Rattle.rules.proofs.Making.{added_none, Adding, adding-starts, adding-next, adding-ends}
-use Rattle.rules.proofs.Parts.{sixteen-long, sixteen-room}
+use Rattle.rules.specs.Codes.{step_at}
+use Rattle.rules.proofs.Making.{Adding}
 use Rattle.rules.proofs.codes.steps.Given as goal
 
 abbrev pub invariant-loop-i : goal.invariant-loop-i

@@ -1,15 +1,12 @@
 -- `rules::codes::steps_of` meets its contract: one code after the other, and u is the value before. Assumes nothing.
-use mathlib.Core.Path.{◌≡◌, refl, ap, ◌∙◌}
+use mathlib.Core.Path.{◌≡◌}
 use mathlib.Core.Bool.{true}
 use mathlib.Core.List.{◌∷◌}
 use Prim.Native.Nat.{◌-◌}
-use native.Mathlib.Numerals.{add-one}
-use native.Mathlib.Omega.{arith}
-use borrow.Author.Rules.{rules}
-use lib.Ieee.{Float, nan}
+use lib.Ieee.{nan}
 use lib.ListN.{get_or}
-use Rattle.rules.specs.Codes.{step_at, step_code}
-use Rattle.rules.proofs.Making.{Adding, adding-starts, adding-one, adding-ends, clear-zeros, coded}
+use Rattle.rules.specs.Codes.{step_at}
+use Rattle.rules.proofs.Making.{Adding}
 use Rattle.rules.proofs.codes.steps_of.Given as goal
 
 abbrev pub invariant-loop-j : goal.invariant-loop-j

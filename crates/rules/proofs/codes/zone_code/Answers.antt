@@ -1,7 +1,6 @@
 -- `rules::codes::zone_code` meets its contract. Assumes nothing.
 use mathlib.Core.Path.{ap₂}
 use lib.Bits.{bit_or}
-use borrow.Author.Rules.{rules}
 use Rattle.rules.specs.Codes.{zone_code}
 use Rattle.rules.proofs.codes.zone_code.Goals as goal
 

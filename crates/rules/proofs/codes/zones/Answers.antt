@@ -1,13 +1,10 @@
 -- `rules::codes::zones` meets its contract: sixteen codes at a time. Assumes nothing.
 use mathlib.Core.Path.{◌≡◌, refl}
 use mathlib.Core.Bool.{true, false}
-use Prim.Native.Nat.{◌-◌}
 use native.Mathlib.Omega.{arith}
 use borrow.Author.Rules.{rules}
-use borrow.Author.Tests.{not-true, not-false}
-use lib.ListN.{length}
-use Rattle.rules.specs.Codes.{zone_code, zone_at}
-use Rattle.rules.proofs.Making.{added_none, Adding, adding-starts, adding-next, adding-ends}
+use Rattle.rules.specs.Codes.{zone_code}
+use Rattle.rules.proofs.Making.{added_none, adding-starts, adding-next, adding-ends}
 use Rattle.rules.proofs.Parts.{sixteen-long, sixteen-room}
 use Rattle.rules.proofs.codes.zones.Goals as goal
 

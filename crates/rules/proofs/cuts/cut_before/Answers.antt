@@ -1,7 +1,6 @@
 -- `rules::cuts::cut_before` meets its contract: nothing is behind the cut, or the first marks there are fitted. Assumes nothing.
 use native.Mathlib.Omega.{arith}
 use Rattle.rules.proofs.Stopped.{cut-past, cut-lent}
-use borrow.Author.Rules.{rules}
 use Rattle.rules.proofs.cuts.cut_before.Goals as goal
 
 pub returns-then-n-q : goal.returns-then-n-q

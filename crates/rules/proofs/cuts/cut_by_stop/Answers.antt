@@ -4,7 +4,6 @@ use borrow.Author.Tests.{ltb-true}
 use Rattle.laws.proofs.Bools.{both}
 use Rattle.rules.specs.Cuts.{cut_marks}
 use Rattle.stops.proofs.Cuts.{both-cuts, one-cut}
-use borrow.Author.Rules.{rules}
 use Rattle.rules.proofs.cuts.cut_by_stop.Goals as goal
 
 pub overflow_sub-p : goal.overflow_sub-p

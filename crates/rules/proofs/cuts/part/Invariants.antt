@@ -1,11 +1,9 @@
 -- `rules::cuts::part` meets its contract: one stop after the other. Assumes nothing.
-use mathlib.Core.Path.{◌≡◌, refl, sym, ap, ◌∙◌}
-use Prim.Native.Nat.{◌+◌, ◌-◌, ◌≤◌}
+use mathlib.Core.Path.{◌≡◌}
+use Prim.Native.Nat.{◌-◌, ◌≤◌}
 use lib.ListN.{length, drop}
 use Rattle.stops.specs.Cuts.{by_stops}
 use Rattle.rules.specs.Cuts.{cut_marks}
-use Rattle.stops.proofs.Cuts.{stops-next, stops-none}
-use borrow.Author.Rules.{rules}
 use Rattle.rules.proofs.cuts.part.Given as goal
 
 abbrev pub invariant-loop-i : goal.invariant-loop-i

@@ -1,6 +1,5 @@
 -- `RuleSet::contains` meets its contract: the test's mask is tried by and. Assumes nothing.
 use mathlib.Core.Path.{sym}
-use borrow.Author.Rules.{rules}
 use Rattle.sets.specs.Calls.{has_test}
 use Rattle.sets.proofs.Members.{too_large}
 use Rattle.sets.proofs.Masks.{contains-is}

@@ -1,9 +1,7 @@
 -- `RuleSet::named` meets its contract: the name is compared with each of the three. Assumes nothing.
 use mathlib.Core.Path.{◌≡◌, sym, ap, ◌∙◌}
 use mathlib.Core.Bool.{false}
-use mathlib.Core.List.{List}
 use Prim.Native.Nat.{ℕ}
-use borrow.Author.Rules.{rules}
 use Rattle.sets.specs.Calls.{same, shewhart, nelson}
 use Rattle.sets.proofs.Names.{first-named, second-named, third-named, none_named}
 use Rattle.sets.proofs.RuleSet.named.Goals.{Else-spelt, Else-spelt-2}

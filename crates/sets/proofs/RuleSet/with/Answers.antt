@@ -1,6 +1,5 @@
 -- `RuleSet::with` meets its contract: the test's mask is added by or. Assumes nothing.
 use mathlib.Core.Path.{sym}
-use borrow.Author.Rules.{rules}
 use Rattle.sets.specs.Calls.{with_test}
 use Rattle.sets.proofs.Members.{too_large}
 use Rattle.sets.proofs.Masks.{with-is}

@@ -1,6 +1,5 @@
 -- `RuleSet::without` meets its contract: the test's mask is taken out by and with its complement. Assumes nothing.
 use mathlib.Core.Path.{sym}
-use borrow.Author.Rules.{rules}
 use Rattle.sets.specs.Calls.{without_test}
 use Rattle.sets.proofs.Members.{too_large}
 use Rattle.sets.proofs.Masks.{without_is}

@@ -1,7 +1,6 @@
 -- `Test::from_bit` meets its contract: the tests stand in the order of their bits. Assumes nothing.
 use mathlib.Core.Path.{sym}
 use native.Mathlib.Omega.{arith}
-use borrow.Author.Rules.{rules}
 use Rattle.sets.specs.Sets.{tests, test_of}
 use Rattle.sets.proofs.Sets.{found, not_found}
 use Rattle.sets.proofs.Test.from_bit.Goals as goal

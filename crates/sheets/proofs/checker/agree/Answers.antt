@@ -1,12 +1,10 @@
 -- `sheets::checker::agree` meets its contract: what was seen and the points that are left say what all of them say. Assumes nothing.
 use native.Mathlib.Omega.{arith}
-use Prim.Native.Nat.{◌-◌, ◌≤◌}
-use mathlib.Core.Path.{◌≡◌, refl, sym, ap, ◌∙◌}
+use mathlib.Core.Path.{refl, sym, ap, ◌∙◌}
 use mathlib.Core.Bool.{◌&&◌, and-true}
 use lib.Dec.{eqb}
-use lib.ListN.{length}
 use Rattle.sheets.specs.Answers.{Verdict}
-use Rattle.sheets.proofs.Comparing.{wrong_from, none_left, seen_next}
+use Rattle.sheets.proofs.Comparing.{none_left, seen_next}
 use borrow.Author.Rules.{rules}
 use Rattle.sheets.proofs.checker.agree.Goals as goal
 

@@ -1,13 +1,10 @@
 -- `sheets::checker::agree` meets its contract: what was seen and the points that are left say what all of them say. Assumes nothing.
-use native.Mathlib.Omega.{arith}
 use Prim.Native.Nat.{◌-◌, ◌≤◌}
-use mathlib.Core.Path.{◌≡◌, refl, sym, ap, ◌∙◌}
-use mathlib.Core.Bool.{◌&&◌, and-true}
+use mathlib.Core.Path.{◌≡◌}
+use mathlib.Core.Bool.{◌&&◌}
 use lib.Dec.{eqb}
 use lib.ListN.{length}
-use Rattle.sheets.specs.Answers.{Verdict}
-use Rattle.sheets.proofs.Comparing.{wrong_from, none_left, seen_next}
-use borrow.Author.Rules.{rules}
+use Rattle.sheets.proofs.Comparing.{wrong_from}
 use Rattle.sheets.proofs.checker.agree.Given as goal
 
 abbrev pub invariant-loop-i : goal.invariant-loop-i

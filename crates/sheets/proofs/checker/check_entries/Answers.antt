@@ -1,5 +1,4 @@
 -- `sheets::checker::check_entries` meets its contract: the form, then points and set, then the marks. Assumes nothing.
-use native.Mathlib.Omega.{arith}
 use mathlib.Core.Path.{◌∙◌}
 use Rattle.sheets.proofs.Judging.{judged-broken, judged-other, judged-points, judged-same}
 use borrow.Author.Rules.{rules}

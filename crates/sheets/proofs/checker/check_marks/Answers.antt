@@ -6,7 +6,6 @@ use Rattle.sheets.specs.Said.{entries}
 use Rattle.sheets.specs.Answers.{judged}
 use Rattle.sheets.specs.Steps.{after_head, Few}
 use Rattle.sheets.proofs.Points.{zeros-front, front_long}
-use borrow.Author.Rules.{rules}
 use Rattle.sheets.proofs.checker.check_marks.Goals as goal
 
 pub read_head-requires : goal.read_head-requires

@@ -1,10 +1,8 @@
 -- `sheets::checker::first_wrong` meets its contract: the points that are left say what all of them say. Assumes nothing.
 use native.Mathlib.Omega.{arith}
-use Prim.Native.Nat.{◌-◌, ◌≤◌}
-use mathlib.Core.Path.{◌≡◌, refl, sym, ◌∙◌}
+use mathlib.Core.Path.{refl, sym, ◌∙◌}
 use borrow.Author.Tests.{eqb-true}
-use lib.ListN.{length}
-use Rattle.sheets.proofs.Comparing.{wrong_from, none_left, point-right, point-wrong, all_right}
+use Rattle.sheets.proofs.Comparing.{none_left, point-right, point-wrong, all_right}
 use borrow.Author.Rules.{rules}
 use Rattle.sheets.proofs.checker.first_wrong.Goals as goal
 

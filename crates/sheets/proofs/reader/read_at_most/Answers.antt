@@ -1,7 +1,6 @@
 -- `sheets::reader::read_at_most` meets its contract: its tests are those of `at_most`. Assumes nothing.
 use mathlib.Core.Path.{sym, ◌∙◌}
 use Rattle.sheets.proofs.Reading.{most-none, most-taken, most-over}
-use borrow.Author.Rules.{rules}
 use Rattle.sheets.proofs.reader.read_at_most.Goals as goal
 
 pub read_number-requires : goal.read_number-requires

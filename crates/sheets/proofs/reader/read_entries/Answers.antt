@@ -3,7 +3,6 @@ use Prim.Native.Nat.{◌+◌, ◌<◌}
 use native.Mathlib.Omega.{arith}
 use mathlib.Core.Path.{◌∙◌}
 use lib.ListN.{length}
-use borrow.Author.Rules.{rules}
 use Rattle.sheets.specs.Steps.{Onward}
 use Rattle.sheets.proofs.Entries.{entry-fits, reach, blank-start, told-start, onward-start, onward-on, onward-turn, onward-broken, onward-over, onward-end}
 use Rattle.sheets.proofs.reader.read_entries.Goals.{After-struct_known-in-loop-r-1, In-Whole, Start}

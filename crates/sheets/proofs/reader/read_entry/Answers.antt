@@ -3,7 +3,6 @@ use mathlib.Core.Path.{sym, ◌∙◌}
 use native.Mathlib.Omega.{arith}
 use lib.Bits.{and_le_r}
 use Rattle.sheets.proofs.Reading.{skip-none, skip-past, marks-none, marks-zero, marks-outside, marks-inside}
-use borrow.Author.Rules.{rules}
 use Rattle.sheets.proofs.reader.read_entry.Goals as goal
 
 pub read_number-requires : goal.read_number-requires

@@ -3,7 +3,6 @@ use mathlib.Core.Path.{sym, ◌∙◌}
 use native.Mathlib.Omega.{arith}
 use Rattle.sheets.specs.Said.{said_from}
 use Rattle.sheets.proofs.Reading.{number_read, number-fault, number-low}
-use borrow.Author.Rules.{rules}
 use Rattle.sheets.proofs.reader.read_head.Goals as goal
 
 pub read_at_most-requires : goal.read_at_most-requires

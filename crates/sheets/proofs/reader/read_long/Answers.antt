@@ -2,9 +2,7 @@
 use Prim.Native.Nat.{◌+◌, ◌<◌}
 use native.Mathlib.Omega.{arith}
 use lib.ListN.{length}
-use borrow.Author.Tests.{ltb-true}
-use Rattle.sheets.specs.Steps.{Onward}
-use Rattle.sheets.proofs.Entries.{reach, onward-start, has_room, onward-long}
+use Rattle.sheets.proofs.Entries.{onward-start, has_room, onward-long}
 use Rattle.sheets.proofs.reader.read_long.Goals.{Else-stated-first, Then-at-near_end}
 use Rattle.sheets.proofs.reader.read_long.Goals as goal
 

@@ -1,10 +1,6 @@
 -- `sheets::reader::read_long` meets its contract, which is also the invariant of its loop. Assumes nothing.
-use Prim.Native.Nat.{◌+◌, ◌<◌}
-use native.Mathlib.Omega.{arith}
-use lib.ListN.{length}
-use borrow.Author.Tests.{ltb-true}
 use Rattle.sheets.specs.Steps.{Onward}
-use Rattle.sheets.proofs.Entries.{reach, onward-start, has_room, onward-long}
+use Rattle.sheets.proofs.Entries.{reach}
 use Rattle.sheets.proofs.reader.read_long.Given as goal
 
 abbrev pub invariant-loop-left : goal.invariant-loop-left

@@ -2,9 +2,7 @@
 use Prim.Native.Nat.{◌+◌, ◌<◌}
 use native.Mathlib.Omega.{arith}
 use lib.ListN.{length, length-set}
-use borrow.Author.Tests.{ltb-true}
-use Rattle.sheets.specs.Steps.{Onward}
-use Rattle.sheets.proofs.Entries.{reach, onward-start, has_room, onward-pair}
+use Rattle.sheets.proofs.Entries.{onward-start, has_room, onward-pair}
 use Rattle.sheets.proofs.reader.read_pairs.Goals.{Else-stated-second, Then-at-near_end}
 use Rattle.sheets.proofs.reader.read_pairs.Goals as goal
 

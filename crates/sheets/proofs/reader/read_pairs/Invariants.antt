@@ -1,10 +1,6 @@
 -- `sheets::reader::read_pairs` meets its contract, which is also the invariant of its loop. Assumes nothing.
-use Prim.Native.Nat.{◌+◌, ◌<◌}
-use native.Mathlib.Omega.{arith}
-use lib.ListN.{length, length-set}
-use borrow.Author.Tests.{ltb-true}
 use Rattle.sheets.specs.Steps.{Onward}
-use Rattle.sheets.proofs.Entries.{reach, onward-start, has_room, onward-pair}
+use Rattle.sheets.proofs.Entries.{reach}
 use Rattle.sheets.proofs.reader.read_pairs.Given as goal
 
 abbrev pub invariant-loop-left : goal.invariant-loop-left

@@ -1,8 +1,7 @@
 -- `sheets::writer::measure` meets its contract. `Measures` of proofs/Writing.antt is the invariant of its loop. Assumes nothing.
 use Prim.Native.Nat.{◌-◌}
-use native.Mathlib.Omega.{arith}
 use lib.ListN.{length}
-use Rattle.sheets.proofs.Writing.{Measures, measures-start, measures-skip, measures-put, measures-end}
+use Rattle.sheets.proofs.Writing.{Measures}
 use Rattle.sheets.proofs.writer.measure.Given as goal
 
 abbrev pub invariant-loop-i : goal.invariant-loop-i

@@ -5,7 +5,6 @@ use mathlib.Core.Path.{◌≡◌, sym, ap, ◌∙◌}
 use borrow.Author.Tests.{le-leb}
 use lib.ListN.{length}
 use Rattle.groups.specs.Groups.{groups, written}
-use borrow.Author.Rules.{rules}
 use Rattle.sheets.proofs.writer.put.Goals as goal
 
 pub returns-in-Bytes : goal.returns-in-Bytes

@@ -1,10 +1,8 @@
 -- `sheets::writer::write_entries` meets its contract. `Writes` of proofs/Writing.antt is the invariant of its loop. Assumes nothing.
-use Prim.Native.Nat.{◌-◌}
 use native.Mathlib.Omega.{arith}
-use lib.ListN.{length}
 use Rattle.laws.proofs.Filling.{filling-length}
 use Rattle.sheets.specs.Sheet.{entries_of}
-use Rattle.sheets.proofs.Writing.{Writes, writes_start, writes-skip, writes-room, writes-on, writes-count, writes_end}
+use Rattle.sheets.proofs.Writing.{writes_start, writes-skip, writes-room, writes-on, writes-count, writes_end}
 use Rattle.sheets.proofs.writer.write_entries.Goals as goal
 
 pub loop-i-init : goal.loop-i-init
