@@ -7,7 +7,7 @@ ghost use Rattle.std.specs.Prelude.{◌≡◌, ◌+◌, ◌*◌, ◌/◌, ◌%�
 ghost use Rattle.std.specs.Float.{binary64};
 ghost use Rattle.std.specs.Float.Ieee.{of_bits};
 ghost use Rattle.root.specs.Root.{root_of};
-ghost use Rattle.root_run.specs.Pairs.{stored, little, Fronts};
+ghost use Rattle.root_run.specs.Pairs.{stored, little, differing, Fronts};
 
 use root::Rooted;
 use std::process::ExitCode;
@@ -87,10 +87,11 @@ struct Tally {
     cut: u64,
 }
 
-// Compares the pairs of a file.
+// Compares each whole pair of a file with our own answer.
 fn compare(file: &[u8]) -> Tally
-    ensures some { result.differ ≤ result.pairs }
-    ensures all { result.pairs ≡ length file.now / 16 }
+    ensures within { result.differ ≤ result.pairs }
+    ensures pairs { result.pairs ≡ length file.now / 16 }
+    ensures differ { result.differ ≡ differing file.now result.pairs }
     ensures cut { result.cut ≡ length file.now % 16 }
 {
     let mut rest = file;
