@@ -5,9 +5,9 @@
 #![tactic(auto)]
 
 use histories::{Answer, Lane, Taken};
-use libc::STDOUT_FILENO;
 use rules::Limits;
 use sets::RuleSet;
+use std::io;
 
 const VALUES: u64 = 100_000;
 
@@ -137,22 +137,19 @@ fn run(counts: &mut [u64; 12]) {
 }
 
 // Writes a number with what stands before it.
-fn say(before: &[u8], n: u64) {
-    io::write_all(STDOUT_FILENO, before);
-    io::print_decimal(STDOUT_FILENO, n);
+fn say(rt: &impl Print, before: &str, n: u64) -> io::Result<()> {
+    print!(rt; "{before}{n}")
 }
 
-fn main() {
+fn main(rt: HostRuntime) -> io::Result<()> {
     let mut counts = [0u64; 12];
     run(&mut counts);
-    say(b"", counts[TAKEN]);
-    say(b" values taken, ", counts[REFUSED]);
-    io::write_all(STDOUT_FILENO, b" refused; marked by each test");
-    let mut b: usize = 0;
-    while b < 9 {
-        say(b" ", counts[b]);
-        b += 1;
+    say(&rt, "", counts[TAKEN])?;
+    say(&rt, " values taken, ", counts[REFUSED])?;
+    print!(rt; " refused; marked by each test")?;
+    for marked in &counts[..TAKEN] {
+        say(&rt, " ", *marked)?;
     }
-    say(b"; all marks come to ", counts[ALL]);
-    io::write_all(STDOUT_FILENO, b"\n");
+    say(&rt, "; all marks come to ", counts[ALL])?;
+    println!(rt; "")
 }

@@ -1,9 +1,12 @@
 -- What the file of pairs holds. Definitions only.
-use Rattle.std.specs.Prelude.{List, ℕ, ◌+◌, ◌*◌, ◌^◌, get_or}
+use Rattle.std.specs.Prelude.{List, ℕ, zero, suc, ◌≡◌, ◌+◌, ◌*◌, ◌^◌, ◌≤◌, ◌<◌, ◌==◌, cond, get_or, take, drop, length}
 use Rattle.std.specs.Float.{binary64}
-use Rattle.std.specs.Float.Ieee.{to_bits}
+use Rattle.std.specs.Float.Ieee.{of_bits, to_bits}
+use Rattle.root.specs.Root.{root_of}
 use Rattle.root.specs.declared.Rooted.{Rooted}
 use Rattle.root.specs.declared.Rooted.TheVariants.{Root, Refused}
+use Rattle.root_run.specs.declared.Pair.{Pair}
+use Rattle.root_run.specs.declared.Pair.TheVariants.{Bits, End, Cut}
 
 -- the number that eight bytes hold, low byte first
 abbrev pub byte_at : List ℕ → ℕ → ℕ
@@ -16,3 +19,25 @@ little a = byte_at a 0 + byte_at a 1 + byte_at a 2 + byte_at a 3 + byte_at a 4 +
 abbrev pub stored : Rooted → ℕ
 stored (Root r) = to_bits binary64 r
 stored Refused = 0xffffffffffffffff
+
+-- the number at the front of some bytes, and what they hold of its root
+abbrev pub number_of : List ℕ → ℕ
+number_of rest = little (take 8 rest)
+
+abbrev pub root_beside : List ℕ → ℕ
+root_beside rest = little (take 8 (drop 8 rest))
+
+-- 1 where the pair at the front differs from the root's own answer, else 0
+abbrev pub differs : List ℕ → ℕ
+differs rest = cond (stored (root_of (of_bits binary64 (number_of rest))) == root_beside rest) 0 1
+
+-- how many of the first so many pairs of a file differ
+unfoldable pub differing : List ℕ → ℕ → ℕ
+differing file zero = 0
+differing file (suc k) = differing file k + differs (drop (16 * k) file)
+
+-- what stands at the front of the bytes that are left: two numbers, nothing, or a part of a pair
+abbrev pub Fronts : List ℕ → Pair → Type 0
+Fronts rest (Bits x root) = (16 ≤ length rest) × (x ≡ number_of rest) × (root ≡ root_beside rest)
+Fronts rest End = length rest ≡ 0
+Fronts rest (Cut n) = (n ≡ length rest) × (0 < n) × (n < 16)

@@ -3,14 +3,15 @@
 // the processor's own instruction gave it, or every bit set where the root is refused.
 #![tactic(auto)]
 
-ghost use Rattle.std.specs.Prelude.{◌≡◌, ◌+◌, ◌*◌, ◌^◌, ◌≤◌, ◌<◌};
+ghost use Rattle.std.specs.Prelude.{◌≡◌, ◌+◌, ◌*◌, ◌/◌, ◌%◌, ◌^◌, ◌≤◌, ◌<◌, length};
 ghost use Rattle.std.specs.Float.{binary64};
 ghost use Rattle.std.specs.Float.Ieee.{of_bits};
 ghost use Rattle.root.specs.Root.{root_of};
-ghost use Rattle.root_run.specs.Pairs.{stored, little};
+ghost use Rattle.root_run.specs.Pairs.{stored, little, differing, Fronts};
 
-use libc::STDOUT_FILENO;
 use root::Rooted;
+use std::process::ExitCode;
+use std::{fs, io};
 
 // What the file holds where the root is refused.
 const REFUSED: u64 = 0xffff_ffff_ffff_ffff;
@@ -58,18 +59,22 @@ enum Pair {
     Cut(u64),
 }
 
-fn read_pair(fd: i32) -> Pair {
-    let mut x = [0u8; 8];
-    let mut root = [0u8; 8];
-    let m = io::read_full(fd, &mut x);
-    if m == 0 {
+// How many bytes a pair has.
+const PAIR: usize = 16;
+
+// The pair at the front of what is left of the file.
+fn read_pair(rest: &[u8]) -> Pair
+    ensures { Fronts rest.now result }
+{
+    if let Some((x, after)) = rest.split_first_chunk::<8>()
+        && let Some(root) = after.first_chunk::<8>()
+    {
+        return Pair::Bits(word(x), word(root));
+    }
+    if rest.is_empty() {
         return Pair::End;
     }
-    let n = io::read_full(fd, &mut root);
-    if n < 8 {
-        return Pair::Cut(m as u64 + n as u64);
-    }
-    Pair::Bits(word(&x), word(&root))
+    Pair::Cut(rest.len() as u64)
 }
 
 // How many pairs were compared and how many of them differ, which pair is the first of those,
@@ -82,16 +87,20 @@ struct Tally {
     cut: u64,
 }
 
-// A proved loop has to end, and nothing says that a file does: the count of pairs ends it.
-fn compare(fd: i32) -> Tally
-    ensures { result.differ ≤ result.pairs }
+// Compares each whole pair of a file with our own answer.
+fn compare(file: &[u8]) -> Tally
+    ensures within { result.differ ≤ result.pairs }
+    ensures pairs { result.pairs ≡ length file.now / 16 }
+    ensures differ { result.differ ≡ differing file.now result.pairs }
+    ensures cut { result.cut ≡ length file.now % 16 }
 {
+    let mut rest = file;
     let mut pairs: u64 = 0;
     let mut differ: u64 = 0;
     let mut first: u64 = 0;
     let mut cut: u64 = 0;
-    while pairs < 0xffff_ffff_ffff_ffff {
-        match read_pair(fd) {
+    loop {
+        match read_pair(rest) {
             Pair::Bits(x, root) => {
                 if answer(x) != root {
                     if differ == 0 {
@@ -100,6 +109,7 @@ fn compare(fd: i32) -> Tally
                     differ += 1;
                 }
                 pairs += 1;
+                rest = &rest[PAIR..];
             }
             Pair::End => break,
             Pair::Cut(bytes) => {
@@ -117,28 +127,35 @@ fn compare(fd: i32) -> Tally
 }
 
 // Writes a number with what stands before and after it.
-fn say(before: &[u8], n: u64, after: &[u8]) {
-    io::write_all(STDOUT_FILENO, before);
-    io::print_decimal(STDOUT_FILENO, n);
-    io::write_all(STDOUT_FILENO, after);
+fn say(rt: &impl Print, before: &str, n: u64, after: &str) -> io::Result<()> {
+    print!(rt; "{before}{n}{after}")
 }
 
-fn main() {
-    let path = b"roots";
-    let fd = os::open_read(path);
-    if fd < 0 {
-        os::fail(path);
-        return;
-    }
-    let t = compare(fd);
-    libc::close(fd);
-    say(b"", t.pairs, b" roots, ");
-    say(b"", t.differ, b" differ\n");
+// Writes what was counted.
+fn tell(rt: &impl Print, t: Tally) -> io::Result<()> {
+    say(rt, "", t.pairs, " roots, ")?;
+    say(rt, "", t.differ, " differ\n")?;
     if t.differ > 0 {
-        say(b"the first at pair ", t.first, b"\n");
+        say(rt, "the first at pair ", t.first, "\n")?;
     }
     if t.cut > 0 {
-        say(b"the file is cut in pair ", t.pairs, b"");
-        say(b", after ", t.cut, b" of its 16 bytes\n");
+        say(rt, "the file is cut in pair ", t.pairs, "")?;
+        say(rt, ", after ", t.cut, " of its 16 bytes\n")?;
+    }
+    Ok(())
+}
+
+// Where the file cannot be read, a line on standard error says so, and the status is 1.
+fn main(rt: HostRuntime) -> io::Result<ExitCode> {
+    let path = "roots";
+    match fs::read(&rt, path) {
+        Ok(file) => {
+            tell(&rt, compare(&file))?;
+            Ok(ExitCode::SUCCESS)
+        }
+        Err(e) => {
+            eprintln!(rt; "{path}: {e}")?;
+            Ok(ExitCode::FAILURE)
+        }
     }
 }

@@ -6,10 +6,10 @@
 
 ghost use Rattle.std.specs.Prelude.{◌<◌, ◌≤◌, length};
 
-use libc::STDOUT_FILENO;
 use rules::{Limits, MOST, OWN_WIDTHS, SAME_WIDTHS};
 use sets::RuleSet;
 use sheets::{Checked, LONGEST, Written};
+use std::io;
 
 // A set with eight on one side, which no set of 01's rows has, is tried in width mode 1, under a lower limit that is nearer than
 // the upper one.
@@ -230,23 +230,21 @@ fn longest() -> u64 {
 }
 
 // Writes a number with what stands before and after it.
-fn say(before: &[u8], n: u64, after: &[u8]) {
-    io::write_all(STDOUT_FILENO, before);
-    io::print_decimal(STDOUT_FILENO, n);
-    io::write_all(STDOUT_FILENO, after);
+fn say(rt: &impl Print, before: &str, n: u64, after: &str) -> io::Result<()> {
+    print!(rt; "{before}{n}{after}")
 }
 
-fn main() {
+fn main(rt: HostRuntime) -> io::Result<()> {
     if !rows() {
-        io::write_all(STDOUT_FILENO, b"row 10 or row 11 is wrong\n");
+        println!(rt; "row 10 or row 11 is wrong")?;
     }
     let mut counts = [0u64; 12];
     let bytes = hundred(&mut counts);
-    say(b"", counts[0], b" sheets accepted, ");
-    say(b"", bytes, b" bytes; refused ");
-    say(b"", counts[9], b" by form, ");
-    say(b"", counts[10], b" by count or set, ");
-    say(b"", counts[11], b" by marks; ");
-    say(b"all answers come to ", counts[ALL], b"; ");
-    say(b"the longest has ", longest(), b" bytes\n");
+    say(&rt, "", counts[0], " sheets accepted, ")?;
+    say(&rt, "", bytes, " bytes; refused ")?;
+    say(&rt, "", counts[9], " by form, ")?;
+    say(&rt, "", counts[10], " by count or set, ")?;
+    say(&rt, "", counts[11], " by marks; ")?;
+    say(&rt, "all answers come to ", counts[ALL], "; ")?;
+    say(&rt, "the longest has ", longest(), " bytes\n")
 }

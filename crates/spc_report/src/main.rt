@@ -1,5 +1,5 @@
 // The report program: reads a flow file from standard input and writes its report to standard output. Where either
-// cannot be done it says so in a line on standard error, which stands in for the status that a program cannot have here.
+// cannot be done it says so in a line on standard error, and ends with status 1.
 #![tactic(auto)]
 
 ghost use Rattle.std.specs.Prelude.{◌≤◌, ◌≡◌, length};
@@ -7,8 +7,9 @@ ghost use Rattle.laws.specs.Front.{at_front};
 ghost use Rattle.reports.specs.Report.{text_of};
 ghost use Rattle.spc_report.specs.Input.{AtMost};
 
-use libc::{STDERR_FILENO, STDIN_FILENO, STDOUT_FILENO};
 use reports::{LONGEST, Reported};
+use std::io::Read;
+use std::process::ExitCode;
 
 // What was read.
 #[derive(Clone, Copy)]
@@ -20,23 +21,22 @@ enum Input {
 }
 
 // What one read brings: no bytes at the end of the input, and maybe fewer than there is room before it.
-fn read_some(room: &mut [u8]) -> Input
+fn read_some(input: &mut impl Read, room: &mut [u8]) -> Input
     ensures { AtMost (length room.new) result }
 {
-    let got = libc::read(STDIN_FILENO, room);
-    if got < 0 {
-        return Input::Failed;
+    match input.read(room) {
+        Ok(n) => Input::Bytes(n),
+        Err(_) => Input::Failed,
     }
-    Input::Bytes(io::count(got, room))
 }
 
 // Reads to the end of the input, or until the room is full.
-fn read_input(room: &mut [u8]) -> Input
+fn read_input(input: &mut impl Read, room: &mut [u8]) -> Input
     ensures { AtMost (length room.new) result }
 {
     let mut done = 0;
     while done < room.len() {
-        match read_some(&mut room[done..]) {
+        match read_some(input, &mut room[done..]) {
             Input::Bytes(n) => {
                 if n == 0 {
                     return Input::Bytes(done);
@@ -70,22 +70,24 @@ fn report(input: &[u8], out: &mut [u8]) -> usize
     }
 }
 
-fn main() {
+// Says on standard error what failed, as far as that can be written; gives the status.
+fn fail(rt: &impl Eprint, what: &str) -> ExitCode {
+    let _ = rt.eprintln(format_args!("spc_report: {what}"));
+    ExitCode::FAILURE
+}
+
+fn main(rt: HostRuntime) -> ExitCode {
     // one byte more than a flow file may have, so that a longer one is seen
     let mut input = [0u8; 24_577];
-    match read_input(&mut input) {
+    match read_input(&mut rt.stdin(), &mut input) {
         Input::Bytes(n) => {
             let mut out = room();
-            let len = report(&input[0..n], &mut out);
-            if !io::write_all(STDOUT_FILENO, &out[0..len]) {
-                io::write_all(
-                    STDERR_FILENO,
-                    b"spc_report: the report could not be written whole\n",
-                );
+            let len = report(&input[..n], &mut out);
+            match rt.write_all(&out[..len]) {
+                Ok(()) => ExitCode::SUCCESS,
+                Err(_) => fail(&rt, "the report could not be written whole"),
             }
         }
-        Input::Failed => {
-            io::write_all(STDERR_FILENO, b"spc_report: the input could not be read\n");
-        }
+        Input::Failed => fail(&rt, "the input could not be read"),
     }
 }

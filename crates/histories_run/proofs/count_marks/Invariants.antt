@@ -1,5 +1,5 @@
 -- `histories_run::count_marks` is safe and ends. Assumes nothing.
-use Rattle.std.proofs.Common.{◌-◌, ◌≤◌, rules}
+use Rattle.std.proofs.Common.{◌-◌, ◌≤◌}
 use Rattle.histories_run.proofs.count_marks.Given as goal
 
 abbrev pub invariant-loop-b : goal.invariant-loop-b

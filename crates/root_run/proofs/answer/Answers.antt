@@ -1,6 +1,5 @@
 -- `root_run::answer` meets its contract: by `root`'s own, whose answer is always a number. Assumes nothing.
 use mathlib.Core.Path.{sym, ap, ◌∙◌, subst}
-use borrow.Author.Rules.{rules}
 use lib.Ieee.{Float}
 use Rattle.root.specs.declared.Rooted.{Rooted}
 use Rattle.root.specs.Root.{Allowed, numbered, root_of}

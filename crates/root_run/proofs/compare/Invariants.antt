@@ -1,15 +1,17 @@
--- `root_run::compare` meets its contract. The invariant of its loop: no more pairs differ than were read. The measure is how many more can be counted.
--- Assumes nothing.
-use Prim.Native.Nat.{◌-◌, ◌^◌, ◌≤◌}
-use mathlib.Core.Logic.{⊎_elim}
-use native.Mathlib.Omega.{arith}
-use borrow.Author.Rules.{rules}
+-- What `root_run::compare` keeps: each 16 bytes that were passed were a pair, and those that differ were counted. The measure is what is
+-- left of the file.
+use Rattle.std.proofs.Common.{◌≡◌, ◌+◌, ◌*◌, ◌≤◌, drop, length}
+use Rattle.root_run.specs.Pairs.{differing}
 use Rattle.root_run.proofs.compare.Given as goal
 
-abbrev pub invariant-loop-pairs : goal.invariant-loop-pairs
-invariant-loop-pairs l =
-    l.differ ≤ l.pairs
+abbrev pub invariant-loop-x : goal.invariant-loop-x
+invariant-loop-x l = record {
+  passed : l.pairs * 16 + length l.rest ≡ length l.file;
+  left : l.rest ≡ drop (16 * l.pairs) l.file;
+  some : l.differ ≤ l.pairs;
+  right : l.differ ≡ differing l.file l.pairs;
+  whole : l.cut ≡ 0;
+}
 
-abbrev pub decreases-loop-pairs : goal.decreases-loop-pairs
-decreases-loop-pairs l =
-    2 ^ 64 - 1 - l.pairs
+abbrev pub decreases-loop-x : goal.decreases-loop-x
+decreases-loop-x l = length l.rest

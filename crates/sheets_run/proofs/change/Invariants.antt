@@ -1,5 +1,5 @@
 -- `sheets_run::change` is safe and ends. Assumes nothing.
-use Rattle.std.proofs.Common.{◌≡◌, ◌-◌, ◌≤◌, length, rules}
+use Rattle.std.proofs.Common.{◌≡◌, ◌-◌, ◌≤◌, length}
 use Rattle.sheets_run.proofs.change.Given as goal
 
 abbrev pub invariant-loop-at : goal.invariant-loop-at

@@ -1,5 +1,5 @@
 -- `sheets_run::cut` is safe and ends. Assumes nothing.
-use Rattle.std.proofs.Common.{◌-◌, ◌≤◌, length, rules}
+use Rattle.std.proofs.Common.{◌-◌, ◌≤◌, length}
 use Rattle.sheets_run.proofs.cut.Given as goal
 
 abbrev pub invariant-loop-n : goal.invariant-loop-n

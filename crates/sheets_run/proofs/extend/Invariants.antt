@@ -1,5 +1,5 @@
 -- `sheets_run::extend` is safe and ends. Assumes nothing.
-use Rattle.std.proofs.Common.{◌≡◌, ◌-◌, length, rules}
+use Rattle.std.proofs.Common.{◌≡◌, length}
 use Rattle.sheets_run.proofs.extend.Given as goal
 
 abbrev pub invariant-loop-more : goal.invariant-loop-more

@@ -1,5 +1,5 @@
 -- `sheets_run::fill` is safe and ends. Assumes nothing.
-use Rattle.std.proofs.Common.{◌≡◌, ◌-◌, ◌≤◌, length, rules}
+use Rattle.std.proofs.Common.{◌≡◌, ◌-◌, ◌≤◌, length}
 use Rattle.sheets_run.proofs.fill.Given as goal
 
 abbrev pub invariant-loop-i : goal.invariant-loop-i

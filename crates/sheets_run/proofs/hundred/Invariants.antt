@@ -1,5 +1,5 @@
 -- `sheets_run::hundred` is safe and ends. Assumes nothing.
-use Rattle.std.proofs.Common.{◌≡◌, ◌-◌, ◌≤◌, length, rules}
+use Rattle.std.proofs.Common.{◌≡◌, ◌-◌, ◌≤◌, length}
 use Rattle.sheets_run.proofs.hundred.Given as goal
 
 abbrev pub invariant-loop-k : goal.invariant-loop-k

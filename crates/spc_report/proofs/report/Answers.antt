@@ -5,15 +5,14 @@ use native.Mathlib.Omega.{arith}
 use lib.ListN.{length}
 use Rattle.reports.specs.Report.{text_of}
 use Rattle.reports.proofs.Longest.{text-short, always-text, always-written}
-use borrow.Author.Rules.{rules}
 use Rattle.spc_report.proofs.report.Goals as goal
 
 pub returns-in-Text : goal.returns-in-Text
 returns-in-Text c =
     let report = c.report in
-    let told = always-text c.args.input.now c.args.out.now c.requires report.result report.ensures.0 in
+    let told = always-text c.args.input.now c.args.out.now c.requires report.result report.ensures.answer in
     let whole : c.in-Text.len ≡ length (text_of c.args.input.now) = cc in
-    let written = always-written c.args.input.now c.args.out.now c.requires report.new.1.0 report.ensures.1 in record {
+    let written = always-written c.args.input.now c.args.out.now c.requires report.new.out report.ensures.room in record {
       length = whole;
       text = written;
       within = omega (arith, report.auto, c.requires, text-short c.args.input.now);
@@ -22,7 +21,6 @@ returns-in-Text c =
 pub returns-in-TooShort : goal.returns-in-TooShort
 returns-in-TooShort c =
     let report = c.report in
-    let told = always-text c.args.input.now c.args.out.now c.requires report.result report.ensures.0 in
+    let told = always-text c.args.input.now c.args.out.now c.requires report.result report.ensures.answer in
     let never : ◌≡◌ {A = ℕ} 0 1 = cc in
-    let all = absurd (omega arith) in
-    record { length = all.0; text = all.1.0; within = all.1.1 }
+    absurd (omega arith)
