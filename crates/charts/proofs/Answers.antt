@@ -27,7 +27,6 @@ number-some refusing.TooFew e = omega arith
 number-some refusing.Record e = omega arith
 number-some refusing.Stops e = omega arith
 number-some refusing.WidthMode e = omega arith
-number-some refusing.Kind e = omega arith
 
 -- the refusal of a number
 abbrev named : ℕ → Refusal
@@ -40,8 +39,7 @@ named n =
     (cond (eqb n 6) refusing.TooShort
     (cond (eqb n 7) refusing.Overflow
     (cond (eqb n 8) refusing.TooFew
-    (cond (eqb n 14) refusing.Record
-    (cond (eqb n 15) refusing.Stops (cond (eqb n 21) refusing.WidthMode refusing.Kind))))))))))
+    (cond (eqb n 14) refusing.Record (cond (eqb n 15) refusing.Stops refusing.WidthMode)))))))))
 
 named-number : (why : Refusal) → named (number why) ≡ why
 named-number refusing.Size = refl
@@ -55,7 +53,6 @@ named-number refusing.TooFew = refl
 named-number refusing.Record = refl
 named-number refusing.Stops = refl
 named-number refusing.WidthMode = refl
-named-number refusing.Kind = refl
 
 pub number-one : (a b : Refusal) → number a ≡ number b → a ≡ b
 number-one a b e = sym (named-number a) ∙ ap named e ∙ named-number b

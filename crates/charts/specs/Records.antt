@@ -27,7 +27,6 @@ number refusing.TooFew = 8
 number refusing.Record = 14
 number refusing.Stops = 15
 number refusing.WidthMode = 21
-number refusing.Kind = 27
 
 -- "A refusal gives back the record unchanged"
 abbrev pub changed : Chart → Changed → ℕ × Chart

@@ -64,8 +64,6 @@ pub enum Refusal {
     Stops,
     /// The width mode is not 0 or 1 (21).
     WidthMode,
-    /// The chart is one of individuals, which has no subgroups to take out (27).
-    Kind,
 }
 
 /// What making or changing a chart answers.
@@ -96,7 +94,6 @@ impl Refusal {
             Refusal::Record => 14,
             Refusal::Stops => 15,
             Refusal::WidthMode => 21,
-            Refusal::Kind => 27,
         }
     }
 }
