@@ -1,9 +1,7 @@
 -- `hold` meets its contract. Assumes nothing.
 use mathlib.Core.Path.{sym, ◌∙◌}
-use borrow.Author.Tests.{not-false}
 use Rattle.lists.proofs.Outcomes.{only_then}
 use Rattle.replay_charts.proofs.Held.{all_held}
-use borrow.Author.Rules.{rules}
 use Rattle.replay_charts.proofs.hold.Goals as goal
 
 pub returns : goal.returns

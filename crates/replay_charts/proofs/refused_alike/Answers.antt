@@ -1,7 +1,6 @@
 -- `refused_alike` meets its contract. Assumes nothing.
 use mathlib.Core.Path.{refl}
 use borrow.Author.Tests.{eq-eqb, ne_eqb}
-use borrow.Author.Rules.{rules}
 use Rattle.replay_charts.proofs.refused_alike.Goals as goal
 
 pub returns-then-number-eq0 : goal.returns-then-number-eq0

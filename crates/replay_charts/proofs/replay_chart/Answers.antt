@@ -1,7 +1,6 @@
 -- `replay_chart` is safe: the head was read within its bounds. Assumes nothing.
 use mathlib.Core.Path.{subst}
 use Rattle.replay_charts.specs.Head.{Within}
-use borrow.Author.Rules.{rules}
 use Rattle.replay_charts.proofs.replay_chart.Goals as goal
 
 pub fill_head-requires : goal.fill_head-requires

@@ -1,5 +1,4 @@
 -- `rest_is` meets its contract. Assumes nothing.
-use borrow.Author.Rules.{rules}
 use Rattle.replay_charts.proofs.rest_is.Goals as goal
 
 pub returns : goal.returns

@@ -5,12 +5,10 @@ use mathlib.Core.List.{List}
 use Prim.Native.Nat.{ℕ, ◌-◌}
 use native.Mathlib.Omega.{arith}
 use lib.Dec.{eqb}
-use borrow.Author.Tests.{not-false}
 use Rattle.lists.specs.Ours.{in_groups, all_are}
 use Rattle.lists.specs.Outcomes.{stretch}
 use Rattle.lists.proofs.Outcomes.{only_then}
 use Rattle.replay_marks.specs.Held.{Held, answer_bytes, written}
-use borrow.Author.Rules.{rules}
 use Rattle.replay_marks.proofs.hold.Goals as goal
 
 all_held : {stopped : Bool} {number n end : ℕ} (stored marks : List ℕ) → end ≡ written number n → (stopped || eqb number 0) ≡ true

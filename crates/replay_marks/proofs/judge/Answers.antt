@@ -1,5 +1,4 @@
 -- `judge` meets its contract. Assumes nothing.
-use borrow.Author.Rules.{rules}
 use Rattle.replay_marks.proofs.judge.Goals as goal
 
 pub returns : goal.returns

@@ -1,6 +1,5 @@
 -- `judge_lane` meets its contract. Assumes nothing.
 use Rattle.lists.proofs.Outcomes.{only_then}
-use borrow.Author.Rules.{rules}
 use Rattle.replay_marks.proofs.judge_lane.Goals as goal
 
 pub returns : goal.returns

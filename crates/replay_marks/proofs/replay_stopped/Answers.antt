@@ -2,7 +2,6 @@
 use mathlib.Core.Path.{subst}
 use native.Mathlib.Omega.{arith}
 use Rattle.lists.specs.Taken.{AtMost}
-use borrow.Author.Rules.{rules}
 use Rattle.replay_marks.proofs.replay_stopped.Goals as goal
 
 pub slice_bounds-stops-end : goal.slice_bounds-stops-end

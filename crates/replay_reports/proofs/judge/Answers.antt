@@ -1,6 +1,5 @@
 -- `replay_reports::judge` meets its contract. Assumes nothing.
 use Rattle.lists.proofs.Outcomes.{compared-only}
-use borrow.Author.Rules.{rules}
 use Rattle.replay_reports.proofs.judge.Goals as goal
 
 pub returns-else-len-n : goal.returns-else-len-n

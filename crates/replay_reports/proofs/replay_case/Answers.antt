@@ -4,7 +4,6 @@ use Prim.Native.Nat.{◌-◌, ◌≤◌}
 use native.Mathlib.Omega.{arith}
 use lib.ListN.{length, drop, length-take, length-drop}
 use Rattle.lists.specs.Taken.{Within}
-use borrow.Author.Rules.{rules}
 use Rattle.replay_reports.proofs.replay_case.Goals.{In-Read-read_bytes, In-Read-read_bytes-2}
 use Rattle.replay_reports.proofs.replay_case.Goals as goal
 

@@ -3,7 +3,6 @@ use mathlib.Core.Path.{sym, ◌∙◌}
 use borrow.Author.Tests.{eq-eqb, ne_eqb}
 use Rattle.lists.proofs.Putting.{put_then}
 use Rattle.replay_charts.specs.Answer.{answer_of}
-use borrow.Author.Rules.{rules}
 use Rattle.replay_charts.proofs.answer.put_answer.Goals as goal
 
 pub returns-then-apart : goal.returns-then-apart

@@ -1,7 +1,6 @@
 -- `answer::put_figure` meets its contract. Assumes nothing.
 use borrow.Author.Tests.{eq-eqb, ne_eqb}
 use Rattle.lists.proofs.Putting.{put_then}
-use borrow.Author.Rules.{rules}
 use Rattle.replay_charts.proofs.answer.put_figure.Goals as goal
 
 pub returns-then-ours-ne0 : goal.returns-then-ours-ne0

@@ -1,6 +1,5 @@
 -- `answer::put_figures` meets its contract. Assumes nothing.
 use Rattle.lists.proofs.Putting.{put_then}
-use borrow.Author.Rules.{rules}
 use Rattle.replay_charts.proofs.answer.put_figures.Goals as goal
 
 pub returns : goal.returns

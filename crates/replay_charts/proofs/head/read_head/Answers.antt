@@ -1,14 +1,10 @@
 -- `head::read_head` meets its contract: its numbers are those of `head_from`, in the same order. Assumes nothing.
 use mathlib.Core.Path.{◌≡◌, sym, ap, subst, ◌∙◌}
-use mathlib.Core.List.{List}
-use Prim.Native.Nat.{ℕ}
 use Rattle.lists.specs.declared.Item.TheVariants.{Kind, Set, Samples}
-use Rattle.lists.specs.declared.Narrow.{Narrow}
 use Rattle.lists.specs.Found.{read, of_small}
 use Rattle.lists.specs.Reading.{small_from}
 use Rattle.lists.specs.Taken.{AtMost}
 use Rattle.replay_charts.specs.Head.{size_from, head_from}
-use borrow.Author.Rules.{rules}
 use Rattle.replay_charts.proofs.head.read_head.Goals.{In-Read, In-Read-read_size, In-Read-read_small, In-Read-read_small-2}
 use Rattle.replay_charts.proofs.head.read_head.Goals as goal
 

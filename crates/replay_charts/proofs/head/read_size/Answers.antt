@@ -4,7 +4,6 @@ use native.Mathlib.Omega.{arith}
 use Rattle.lists.specs.declared.Small.{Small}
 use Rattle.lists.specs.declared.Small.TheVariants.{Read, Fault}
 use Rattle.lists.specs.Taken.{AtMost}
-use borrow.Author.Rules.{rules}
 use borrow.Author.Tests.{eq-eqb, ne_eqb}
 use Rattle.replay_charts.specs.Head.{size_from}
 use Rattle.replay_charts.proofs.head.read_size.Goals as goal

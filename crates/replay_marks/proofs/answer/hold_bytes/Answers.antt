@@ -2,7 +2,6 @@
 use native.Mathlib.Omega.{arith}
 use Rattle.lists.proofs.Outcomes.{only_then}
 use Rattle.lists.proofs.Putting.{put-stands}
-use borrow.Author.Rules.{rules}
 use Rattle.replay_marks.proofs.answer.hold_bytes.Goals as goal
 
 pub returns : goal.returns

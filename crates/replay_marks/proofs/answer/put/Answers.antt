@@ -1,6 +1,5 @@
 -- `answer::put` meets its contract. Assumes nothing.
 use Rattle.lists.proofs.Putting.{put_then}
-use borrow.Author.Rules.{rules}
 use Rattle.replay_marks.proofs.answer.put.Goals as goal
 
 pub returns-then-stopped : goal.returns-then-stopped
