@@ -11,13 +11,13 @@ use Rattle.evaluating.proofs.estimate.Goals as goal
 
 -- ---- where there is a centre line
 
-accepted : (c : In-Done) → sigma_number ((asked c.args.chart c.args.values.now)) ≡ 0
+accepted : (c : In-Done) → sigma_number (asked c.args.chart c.args.values.now) ≡ 0
 accepted c =
     was-done _ _ c.centre.ensures c.in-Done.is
 
 right : (c : In-Done) → own_wrong c.args.chart ≡ false
 right c =
-    own_of c.args.chart (length c.args.values.now) (record-right ((asked c.args.chart c.args.values.now)) (accepted c))
+    own_of c.args.chart (length c.args.values.now) (record-right (asked c.args.chart c.args.values.now) (accepted c))
 
 pub sigma_from-requires : goal.sigma_from-requires
 sigma_from-requires c =

@@ -11,10 +11,10 @@ use Rattle.evaluating.proofs.evaluate.Goals.{After-check}
 use Rattle.evaluating.proofs.evaluate.Goals as goal
 
 -- what the tests found, by the definition's words for positions that are wrong and a room too short
-found : (c : After-check) → (tested c.check.result ≡ first_of (ahead ((in_mode (interrupted (asked c.args.chart c.args.values.now) c.args.positions.now) c.args.width)) ((positions_wrong c.args.chart c.args.positions.now)) ((width_wrong c.args.width)) ((no_room c.args.chart (length c.args.main.now) (length c.args.dispersion.now)
-    (length c.args.main_marks.now) (length c.args.dispersion_marks.now)))) 0)
+found : (c : After-check) → (tested c.check.result ≡ first_of (ahead (in_mode (interrupted (asked c.args.chart c.args.values.now) c.args.positions.now) c.args.width) (positions_wrong c.args.chart c.args.positions.now) (width_wrong c.args.width) (no_room c.args.chart (length c.args.main.now) (length c.args.dispersion.now)
+    (length c.args.main_marks.now) (length c.args.dispersion_marks.now))) 0)
 found c =
-    c.check.ensures ∙ ap₂ (λ (b d : Bool). first_of (ahead ((in_mode (interrupted (asked c.args.chart c.args.values.now) c.args.positions.now) c.args.width)) b ((width_wrong c.args.width)) d) 0) c.positions_wrong-wrong.ensures c.no_room-short.ensures
+    c.check.ensures ∙ ap₂ (λ (b d : Bool). first_of (ahead (in_mode (interrupted (asked c.args.chart c.args.values.now) c.args.positions.now) c.args.width) b (width_wrong c.args.width) d) 0) c.positions_wrong-wrong.ensures c.no_room-short.ensures
 
 pub evaluate-requires : goal.evaluate-requires
 evaluate-requires c =
@@ -25,17 +25,17 @@ returns-in-Refused c =
     let is = c.in-Refused.is in
     let all = found (goal.at.returns-in-Refused c).After-check in
     let a = (in_mode (interrupted (asked c.args.chart c.args.values.now) c.args.positions.now) c.args.width) in record {
-      answer = answer-refused a ((no_room c.args.chart (length c.args.main.now) (length c.args.dispersion.now)
-          (length c.args.main_marks.now) (length c.args.dispersion_marks.now))) _ (number-ahead a ((positions_wrong c.args.chart c.args.positions.now)) ((width_wrong c.args.width)) ((no_room c.args.chart (length c.args.main.now) (length c.args.dispersion.now)
-          (length c.args.main_marks.now) (length c.args.dispersion_marks.now))) is all) (number-some c.in-Refused.why);
-      main = slice-refused a ((positions_wrong c.args.chart c.args.positions.now)) ((width_wrong c.args.width)) ((no_room c.args.chart (length c.args.main.now) (length c.args.dispersion.now)
-          (length c.args.main_marks.now) (length c.args.dispersion_marks.now))) is all _ _ _;
-      dispersion = slice-refused a ((positions_wrong c.args.chart c.args.positions.now)) ((width_wrong c.args.width)) ((no_room c.args.chart (length c.args.main.now) (length c.args.dispersion.now)
-          (length c.args.main_marks.now) (length c.args.dispersion_marks.now))) is all _ _ _;
-      main_marks = slice-refused a ((positions_wrong c.args.chart c.args.positions.now)) ((width_wrong c.args.width)) ((no_room c.args.chart (length c.args.main.now) (length c.args.dispersion.now)
-          (length c.args.main_marks.now) (length c.args.dispersion_marks.now))) is all _ _ _;
-      dispersion_marks = slice-refused a ((positions_wrong c.args.chart c.args.positions.now)) ((width_wrong c.args.width)) ((no_room c.args.chart (length c.args.main.now) (length c.args.dispersion.now)
-          (length c.args.main_marks.now) (length c.args.dispersion_marks.now))) is all _ _ _;
+      answer = answer-refused a (no_room c.args.chart (length c.args.main.now) (length c.args.dispersion.now)
+          (length c.args.main_marks.now) (length c.args.dispersion_marks.now)) _ (number-ahead a (positions_wrong c.args.chart c.args.positions.now) (width_wrong c.args.width) (no_room c.args.chart (length c.args.main.now) (length c.args.dispersion.now)
+          (length c.args.main_marks.now) (length c.args.dispersion_marks.now)) is all) (number-some c.in-Refused.why);
+      main = slice-refused a (positions_wrong c.args.chart c.args.positions.now) (width_wrong c.args.width) (no_room c.args.chart (length c.args.main.now) (length c.args.dispersion.now)
+          (length c.args.main_marks.now) (length c.args.dispersion_marks.now)) is all _ _ _;
+      dispersion = slice-refused a (positions_wrong c.args.chart c.args.positions.now) (width_wrong c.args.width) (no_room c.args.chart (length c.args.main.now) (length c.args.dispersion.now)
+          (length c.args.main_marks.now) (length c.args.dispersion_marks.now)) is all _ _ _;
+      main_marks = slice-refused a (positions_wrong c.args.chart c.args.positions.now) (width_wrong c.args.width) (no_room c.args.chart (length c.args.main.now) (length c.args.dispersion.now)
+          (length c.args.main_marks.now) (length c.args.dispersion_marks.now)) is all _ _ _;
+      dispersion_marks = slice-refused a (positions_wrong c.args.chart c.args.positions.now) (width_wrong c.args.width) (no_room c.args.chart (length c.args.main.now) (length c.args.dispersion.now)
+          (length c.args.main_marks.now) (length c.args.dispersion_marks.now)) is all _ _ _;
     }
 
 pub returns-in-Passed : goal.returns-in-Passed

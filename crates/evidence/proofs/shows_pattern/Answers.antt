@@ -21,7 +21,7 @@ one : (c : After-bit) → ((1 * 2 ^ c.bit.result) % 2 ^ 16) ≡ 2 ^ bit_of c.arg
 one c =
     one_shl c.bit.result 16 (omega (arith, c.bit.ensures, bit_of-lt c.args.t)) ∙ ap (λ (k : ℕ). 2 ^ k) c.bit.ensures
 
-answered : (c : After-number) → c.number.result ≡ answer_of (alone c.args.limits c.args.width) (((1 * 2 ^ c.bit.result) % 2 ^ 16)) c.args.part.now 15
+answered : (c : After-number) → c.number.result ≡ answer_of (alone c.args.limits c.args.width) ((1 * 2 ^ c.bit.result) % 2 ^ 16) c.args.part.now 15
 answered c =
     c.number.ensures ∙ c.mark-answered.ensures.answer
 

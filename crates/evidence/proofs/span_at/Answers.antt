@@ -14,7 +14,7 @@ use Rattle.evidence.proofs.span_at.Goals as goal
 
 -- ---- the test that was found, and whether its window shows the pattern
 
-is-test : (c : After-window-n) → test_at c.args.bit ≡ finding.Test (c.in-Test.t)
+is-test : (c : After-window-n) → test_at c.args.bit ≡ finding.Test c.in-Test.t
 is-test c =
     sym c.from_bit.ensures ∙ c.in-Test.is
 
@@ -23,7 +23,7 @@ shown : (c : After-shows_pattern)
 shown c =
     let a = c.args in
     c.shows_pattern.ensures
-    ∙ shown-by-part _ (under a.limits a.width a.stops.now a.moving) _ _ (c.in-Test.t) ((sym c.from_bit.ensures ∙ c.in-Test.is)) _ c.window-n.ensures c.if-series-at.false ((sym c.wrong.ensures ∙ c.if-wrong.false))
+    ∙ shown-by-part _ (under a.limits a.width a.stops.now a.moving) _ _ c.in-Test.t (sym c.from_bit.ensures ∙ c.in-Test.is) _ c.window-n.ensures c.if-series-at.false (sym c.wrong.ensures ∙ c.if-wrong.false)
     (omega (arith, c.since.ensures, c.if-start-since.false, c.if-end-n.false))
 
 pub returns-then-series-at : goal.returns-then-series-at
@@ -40,20 +40,20 @@ returns-in_default c =
 
 pub returns-then-end-n : goal.returns-then-end-n
 returns-then-end-n c =
-    (sym (no_span _ _ _ _ (no-such-window _ _ _ _ (c.in-Test.t) (is-test (goal.at.returns-then-end-n c).After-window-n) _ c.window-n.ensures (omega (arith, c.if-end-n.true)))), search rules, search rules)
+    (sym (no_span _ _ _ _ (no-such-window _ _ _ _ c.in-Test.t (is-test (goal.at.returns-then-end-n c).After-window-n) _ c.window-n.ensures (omega (arith, c.if-end-n.true)))), search rules, search rules)
 
 pub returns-then-start-since : goal.returns-then-start-since
 returns-then-start-since c =
     let a = c.args in (
       sym (no_span _ _ _ _ (
-          no-such-window _ _ _ _ (c.in-Test.t) (is-test (goal.at.returns-then-start-since c).After-window-n) _ c.window-n.ensures (omega (arith, since-le (cut_at a.stops.now a.moving) a.at, c.since.ensures, c.if-start-since.true, c.if-end-n.false)))),
+          no-such-window _ _ _ _ c.in-Test.t (is-test (goal.at.returns-then-start-since c).After-window-n) _ c.window-n.ensures (omega (arith, since-le (cut_at a.stops.now a.moving) a.at, c.since.ensures, c.if-start-since.true, c.if-end-n.false)))),
       search rules,
       search rules,
     )
 
 pub returns-then-shows_pattern : goal.returns-then-shows_pattern
 returns-then-shows_pattern c =
-    (sym (a-span _ _ _ _ (c.in-Test.t) (is-test (goal.at.returns-then-shows_pattern c).After-window-n) _ c.window-n.ensures (sym (shown (goal.at.returns-then-shows_pattern c).After-shows_pattern) ∙ c.if-shows_pattern.true)), search rules, search rules)
+    (sym (a-span _ _ _ _ c.in-Test.t (is-test (goal.at.returns-then-shows_pattern c).After-window-n) _ c.window-n.ensures (sym (shown (goal.at.returns-then-shows_pattern c).After-shows_pattern) ∙ c.if-shows_pattern.true)), search rules, search rules)
 
 pub returns : goal.returns
 returns c =

@@ -31,66 +31,66 @@ use Rattle.reports.proofs.report_chart.Goals as goal
 
 -- ---- the arguments, and what is known of the values
 
-abbrev legal : (c : Else-not-all_finite) → Legal ((asked c.args.chart c.args.values.now)).chart
+abbrev legal : (c : Else-not-all_finite) → Legal (asked c.args.chart c.args.values.now).chart
 legal c =
     c.requires.legal
 
-abbrev whole : (c : Else-not-all_finite) → length ((asked c.args.chart c.args.values.now)).values ≡ size ((asked c.args.chart c.args.values.now)).chart
+abbrev whole : (c : Else-not-all_finite) → length (asked c.args.chart c.args.values.now).values ≡ size (asked c.args.chart c.args.values.now).chart
 whole c =
     c.requires.whole
 
-finite : (c : Else-not-all_finite) → all_finite ((asked c.args.chart c.args.values.now)).values ≡ true
+finite : (c : Else-not-all_finite) → all_finite (asked c.args.chart c.args.values.now).values ≡ true
 finite c =
     sym c.all_finite.ensures ∙ c.if-not-all_finite.false
 
 -- ---- what evaluating answered
 
-answer : (c : After-evaluate) → evaluated c.evaluate.result ≡ evaluate_of ((asked c.args.chart c.args.values.now)) (short ((asked c.args.chart c.args.values.now)).chart)
+answer : (c : After-evaluate) → evaluated c.evaluate.result ≡ evaluate_of (asked c.args.chart c.args.values.now) (short (asked c.args.chart c.args.values.now).chart)
 answer c =
     c.evaluate.ensures.answer
-    ∙ at_room ((asked c.args.chart c.args.values.now)) (length-replicate 2048 (of_bits binary64 0)) (length-replicate 2048 (of_bits binary64 0))
+    ∙ at_room (asked c.args.chart c.args.values.now) (length-replicate 2048 (of_bits binary64 0)) (length-replicate 2048 (of_bits binary64 0))
     (length-replicate {A = ℕ} 2048 0) (length-replicate {A = ℕ} 2048 0)
 
 -- the points of the second series
-ranges : (c : After-first_index) → ((asked c.args.chart c.args.values.now)).chart.count - c.first_index.result ≡ points_in ((asked c.args.chart c.args.values.now)).chart 1
+ranges : (c : After-first_index) → (asked c.args.chart c.args.values.now).chart.count - c.first_index.result ≡ points_in (asked c.args.chart c.args.values.now).chart 1
 ranges c =
-    ap (λ (n : ℕ). ((asked c.args.chart c.args.values.now)).chart.count - n) c.first_index.ensures.0 ∙ points-from ((asked c.args.chart c.args.values.now)).chart
+    ap (λ (n : ℕ). (asked c.args.chart c.args.values.now).chart.count - n) c.first_index.ensures.0 ∙ points-from (asked c.args.chart c.args.values.now).chart
 
 -- ---- what is known of an evaluation
 
-done : (c : In-Done) → evaluated (Done c.in-Done.e) ≡ evaluate_of ((asked c.args.chart c.args.values.now)) (short ((asked c.args.chart c.args.values.now)).chart)
+done : (c : In-Done) → evaluated (Done c.in-Done.e) ≡ evaluate_of (asked c.args.chart c.args.values.now) (short (asked c.args.chart c.args.values.now).chart)
 done c =
     sym (ap evaluated c.in-Done.is) ∙ (c.evaluate.ensures.answer
-    ∙ at_room ((asked c.args.chart c.args.values.now)) (length-replicate 2048 (of_bits binary64 0)) (length-replicate 2048 (of_bits binary64 0))
+    ∙ at_room (asked c.args.chart c.args.values.now) (length-replicate 2048 (of_bits binary64 0)) (length-replicate 2048 (of_bits binary64 0))
     (length-replicate {A = ℕ} 2048 0) (length-replicate {A = ℕ} 2048 0))
 
-none-refused : (c : In-Done) → refusal_of ((asked c.args.chart c.args.values.now)) ≡ 0
+none-refused : (c : In-Done) → refusal_of (asked c.args.chart c.args.values.now) ≡ 0
 none-refused c =
-    done-so ((asked c.args.chart c.args.values.now)) (c.requires.legal) (c.requires.whole) ((sym c.all_finite.ensures ∙ c.if-not-all_finite.false)) refl c.in-Done.e (done c)
+    done-so (asked c.args.chart c.args.values.now) c.requires.legal c.requires.whole (sym c.all_finite.ensures ∙ c.if-not-all_finite.false) refl c.in-Done.e (done c)
 
-main-is : (c : In-Done) → c.in-Done.e.main ≡ limits_of ((asked c.args.chart c.args.values.now)) 0
+main-is : (c : In-Done) → c.in-Done.e.main ≡ limits_of (asked c.args.chart c.args.values.now) 0
 main-is c =
-    main-limits ((asked c.args.chart c.args.values.now)) (c.requires.legal) (c.requires.whole) ((sym c.all_finite.ensures ∙ c.if-not-all_finite.false)) refl c.in-Done.e (done c)
+    main-limits (asked c.args.chart c.args.values.now) c.requires.legal c.requires.whole (sym c.all_finite.ensures ∙ c.if-not-all_finite.false) refl c.in-Done.e (done c)
 
-dispersion-is : (c : In-Done) → c.in-Done.e.dispersion ≡ limits_of ((asked c.args.chart c.args.values.now)) 1
+dispersion-is : (c : In-Done) → c.in-Done.e.dispersion ≡ limits_of (asked c.args.chart c.args.values.now) 1
 dispersion-is c =
-    dispersion-limits ((asked c.args.chart c.args.values.now)) (c.requires.legal) (c.requires.whole) ((sym c.all_finite.ensures ∙ c.if-not-all_finite.false)) refl c.in-Done.e (done c)
+    dispersion-limits (asked c.args.chart c.args.values.now) c.requires.legal c.requires.whole (sym c.all_finite.ensures ∙ c.if-not-all_finite.false) refl c.in-Done.e (done c)
 
 number_is : (c : In-Done)
-    → c.in-Done.e.marks ≡ number_of (series_marks ((asked c.args.chart c.args.values.now)) 0) + number_of (series_marks ((asked c.args.chart c.args.values.now)) 1)
+    → c.in-Done.e.marks ≡ number_of (series_marks (asked c.args.chart c.args.values.now) 0) + number_of (series_marks (asked c.args.chart c.args.values.now) 1)
 number_is c =
-    marks-number ((asked c.args.chart c.args.values.now)) (c.requires.legal) (c.requires.whole) ((sym c.all_finite.ensures ∙ c.if-not-all_finite.false)) refl c.in-Done.e (done c)
+    marks-number (asked c.args.chart c.args.values.now) c.requires.legal c.requires.whole (sym c.all_finite.ensures ∙ c.if-not-all_finite.false) refl c.in-Done.e (done c)
 
-marks-are : (c : In-Done) → take (((asked c.args.chart c.args.values.now)).chart.count - 0) (c.evaluate.new.main_marks) ≡ series_marks ((asked c.args.chart c.args.values.now)) 0
+marks-are : (c : In-Done) → take ((asked c.args.chart c.args.values.now).chart.count - 0) c.evaluate.new.main_marks ≡ series_marks (asked c.args.chart c.args.values.now) 0
 marks-are c =
-    marks-left ((asked c.args.chart c.args.values.now)) 0 (replicate 2048 0) (c.evaluate.new.main_marks) ((asked c.args.chart c.args.values.now)).chart.count
-    (c.evaluate.ensures.main_marks ∙ ap ((λ (s : ℕ) (r : Evaluated). lent_after (evaluated r).number 0 (series_marks ((asked c.args.chart c.args.values.now)) s) (replicate 2048 0)) 0) c.in-Done.is) (sym (points-main ((asked c.args.chart c.args.values.now)).chart))
+    marks-left (asked c.args.chart c.args.values.now) 0 (replicate 2048 0) c.evaluate.new.main_marks (asked c.args.chart c.args.values.now).chart.count
+    (c.evaluate.ensures.main_marks ∙ ap ((λ (s : ℕ) (r : Evaluated). lent_after (evaluated r).number 0 (series_marks (asked c.args.chart c.args.values.now) s) (replicate 2048 0)) 0) c.in-Done.is) (sym (points-main (asked c.args.chart c.args.values.now).chart))
 
-others-are : (c : In-Done) (n : ℕ) → n ≡ points_in ((asked c.args.chart c.args.values.now)).chart 1
-    → take (n - 0) (c.evaluate.new.dispersion_marks) ≡ series_marks ((asked c.args.chart c.args.values.now)) 1
+others-are : (c : In-Done) (n : ℕ) → n ≡ points_in (asked c.args.chart c.args.values.now).chart 1
+    → take (n - 0) c.evaluate.new.dispersion_marks ≡ series_marks (asked c.args.chart c.args.values.now) 1
 others-are c n e =
-    marks-left ((asked c.args.chart c.args.values.now)) 1 (replicate 2048 0) (c.evaluate.new.dispersion_marks) n
-    (c.evaluate.ensures.dispersion_marks ∙ ap ((λ (s : ℕ) (r : Evaluated). lent_after (evaluated r).number 0 (series_marks ((asked c.args.chart c.args.values.now)) s) (replicate 2048 0)) 1) c.in-Done.is) e
+    marks-left (asked c.args.chart c.args.values.now) 1 (replicate 2048 0) c.evaluate.new.dispersion_marks n
+    (c.evaluate.ensures.dispersion_marks ∙ ap ((λ (s : ℕ) (r : Evaluated). lent_after (evaluated r).number 0 (series_marks (asked c.args.chart c.args.values.now) s) (replicate 2048 0)) 1) c.in-Done.is) e
 
 pub returns-then-not-all_finite : goal.returns-then-not-all_finite
 returns-then-not-all_finite c =
@@ -103,45 +103,45 @@ returns-then-not-all_finite c =
 
 pub overflow_sub-ranges : goal.overflow_sub-ranges
 overflow_sub-ranges c =
-    omega (arith, some-points ((asked c.args.chart c.args.values.now)) (none-refused (goal.at.overflow_sub-ranges c).In-Done), c.first_index.ensures)
+    omega (arith, some-points (asked c.args.chart c.args.values.now) (none-refused (goal.at.overflow_sub-ranges c).In-Done), c.first_index.ensures)
 
 pub slice_bounds-tell-end : goal.slice_bounds-tell-end
 slice_bounds-tell-end c =
-    omega (arith, few-samples ((asked c.args.chart c.args.values.now)).chart (legal (goal.at.slice_bounds-tell-end c).Else-not-all_finite), c.evaluate.auto.main_marks, length-replicate {A = ℕ} 2048 0)
+    omega (arith, few-samples (asked c.args.chart c.args.values.now).chart (legal (goal.at.slice_bounds-tell-end c).Else-not-all_finite), c.evaluate.auto.main_marks, length-replicate {A = ℕ} 2048 0)
 
 pub slice_bounds-tell-end-in-Done : goal.slice_bounds-tell-end-in-Done
 slice_bounds-tell-end-in-Done c =
     let kept = c.evaluate.auto.dispersion_marks in
-    omega (arith, points-fit ((asked c.args.chart c.args.values.now)).chart (legal (goal.at.slice_bounds-tell-end-in-Done c).Else-not-all_finite) 1, ranges (goal.at.slice_bounds-tell-end-in-Done c).After-first_index, kept, length-replicate {A = ℕ} 2048 0)
+    omega (arith, points-fit (asked c.args.chart c.args.values.now).chart (legal (goal.at.slice_bounds-tell-end-in-Done c).Else-not-all_finite) 1, ranges (goal.at.slice_bounds-tell-end-in-Done c).After-first_index, kept, length-replicate {A = ℕ} 2048 0)
 
 pub tell-requires : goal.tell-requires
 tell-requires c =
     let none = none-refused (goal.at.tell-requires c).In-Done in
     let points = ranges (goal.at.tell-requires c).After-first_index in
     record {
-      main = ap finite_limits (main-is (goal.at.tell-requires c).In-Done) ∙ finite-main ((asked c.args.chart c.args.values.now)) none;
-      dispersion = ap finite_limits (dispersion-is (goal.at.tell-requires c).In-Done) ∙ finite-dispersion ((asked c.args.chart c.args.values.now)) none;
-      few = omega (arith, ap length (marks-are (goal.at.tell-requires c).In-Done), length-marks ((asked c.args.chart c.args.values.now)) 0, points-fit ((asked c.args.chart c.args.values.now)).chart (legal (goal.at.tell-requires c).Else-not-all_finite) 0);
-      few_others = omega (arith, ap length (others-are (goal.at.tell-requires c).In-Done _ points), length-marks ((asked c.args.chart c.args.values.now)) 1, points-fit ((asked c.args.chart c.args.values.now)).chart (legal (goal.at.tell-requires c).Else-not-all_finite) 1);
-      start = first_small ((asked c.args.chart c.args.values.now)).chart;
+      main = ap finite_limits (main-is (goal.at.tell-requires c).In-Done) ∙ finite-main (asked c.args.chart c.args.values.now) none;
+      dispersion = ap finite_limits (dispersion-is (goal.at.tell-requires c).In-Done) ∙ finite-dispersion (asked c.args.chart c.args.values.now) none;
+      few = omega (arith, ap length (marks-are (goal.at.tell-requires c).In-Done), length-marks (asked c.args.chart c.args.values.now) 0, points-fit (asked c.args.chart c.args.values.now).chart (legal (goal.at.tell-requires c).Else-not-all_finite) 0);
+      few_others = omega (arith, ap length (others-are (goal.at.tell-requires c).In-Done _ points), length-marks (asked c.args.chart c.args.values.now) 1, points-fit (asked c.args.chart c.args.values.now).chart (legal (goal.at.tell-requires c).Else-not-all_finite) 1);
+      start = first_small (asked c.args.chart c.args.values.now).chart;
       number =
           number_is (goal.at.tell-requires c).In-Done
-          ∙ sym (both-number (first_index ((asked c.args.chart c.args.values.now)).chart) (series_marks ((asked c.args.chart c.args.values.now)) 0) (series_marks ((asked c.args.chart c.args.values.now)) 1))
-          ∙ sym (ap₂ (λ (m o : List ℕ). length (both_marks (first_index ((asked c.args.chart c.args.values.now)).chart) m o)) (marks-are (goal.at.tell-requires c).In-Done) (others-are (goal.at.tell-requires c).In-Done _ points));
+          ∙ sym (both-number (first_index (asked c.args.chart c.args.values.now).chart) (series_marks (asked c.args.chart c.args.values.now) 0) (series_marks (asked c.args.chart c.args.values.now) 1))
+          ∙ sym (ap₂ (λ (m o : List ℕ). length (both_marks (first_index (asked c.args.chart c.args.values.now).chart) m o)) (marks-are (goal.at.tell-requires c).In-Done) (others-are (goal.at.tell-requires c).In-Done _ points));
     }
 
 pub returns-in-Refused : goal.returns-in-Refused
 returns-in-Refused c =
     let is = sym (ap evaluated c.in-Refused.is) ∙ answer (goal.at.returns-in-Refused c).After-evaluate in
-    let refused = refused-so ((asked c.args.chart c.args.values.now)) (legal (goal.at.returns-in-Refused c).Else-not-all_finite) (whole (goal.at.returns-in-Refused c).Else-not-all_finite) (finite (goal.at.returns-in-Refused c).Else-not-all_finite) refl c.in-Refused.why is in
-    let told = report-refused ((asked c.args.chart c.args.values.now)) (number c.in-Refused.why) refused (number-some c.in-Refused.why) in
+    let refused = refused-so (asked c.args.chart c.args.values.now) (legal (goal.at.returns-in-Refused c).Else-not-all_finite) (whole (goal.at.returns-in-Refused c).Else-not-all_finite) (finite (goal.at.returns-in-Refused c).Else-not-all_finite) refl c.in-Refused.why is in
+    let told = report-refused (asked c.args.chart c.args.values.now) (number c.in-Refused.why) refused (number-some c.in-Refused.why) in
     let all = told-as _ _ c.args.out.now (ap r_line c.number.ensures ∙ told) (c.refuse-in-Refused.ensures.answer, c.refuse-in-Refused.ensures.room) in
     record { answer = all.0; room = all.1 }
 
 pub returns-in-Done : goal.returns-in-Done
 returns-in-Done c =
     let all = told-as _ _ c.args.out.now
-    (report-done ((asked c.args.chart c.args.values.now)) (none-refused (goal.at.returns-in-Done c).In-Done) (main-is (goal.at.returns-in-Done c).In-Done) (dispersion-is (goal.at.returns-in-Done c).In-Done) (marks-are (goal.at.returns-in-Done c).In-Done)
+    (report-done (asked c.args.chart c.args.values.now) (none-refused (goal.at.returns-in-Done c).In-Done) (main-is (goal.at.returns-in-Done c).In-Done) (dispersion-is (goal.at.returns-in-Done c).In-Done) (marks-are (goal.at.returns-in-Done c).In-Done)
     (others-are (goal.at.returns-in-Done c).In-Done _ (ranges (goal.at.returns-in-Done c).After-first_index)))
     (c.tell.ensures.answer, c.tell.ensures.room) in
     record { answer = all.0; room = all.1 }

@@ -13,7 +13,7 @@ put_chart-n-requires c =
 
 pub returns-then-out-n : goal.returns-then-out-n
 returns-then-out-n c =
-    let is = ap ((λ (first : ℕ). text_by c.args.chart c.args.e first c.args.marks.now c.args.others.now)) c.first_index-first.ensures.0 in
+    let is = ap (λ (first : ℕ). text_by c.args.chart c.args.e first c.args.marks.now c.args.others.now) c.first_index-first.ensures.0 in
     let all = told-short ((λ (first : ℕ). text_by c.args.chart c.args.e first c.args.marks.now c.args.others.now) (first_index c.args.chart)) c.args.out.now _ _ (put_as is c.put_chart-n.ensures) c.if-out-n.true in
     record { answer = all.0; room = all.1 }
 
@@ -24,7 +24,7 @@ put_chart-requires c =
 
 pub returns : goal.returns
 returns c =
-    let is = ap ((λ (first : ℕ). text_by c.args.chart c.args.e first c.args.marks.now c.args.others.now)) c.first_index-first.ensures.0 in
+    let is = ap (λ (first : ℕ). text_by c.args.chart c.args.e first c.args.marks.now c.args.others.now) c.first_index-first.ensures.0 in
     let all = told-whole ((λ (first : ℕ). text_by c.args.chart c.args.e first c.args.marks.now c.args.others.now) (first_index c.args.chart)) c.args.out.now _ _ (put_as is c.put_chart-n.ensures) c.if-out-n.false _ _
     (put_as is c.put_chart.ensures) in
     record { answer = all.0; room = all.1 }

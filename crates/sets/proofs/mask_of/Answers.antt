@@ -16,4 +16,4 @@ overflow_shl-result c =
 
 pub returns : goal.returns
 returns c =
-    one_shl c.bit.result 16 ((omega (arith, bit_of-lt c.args.t))) ∙ ap (λ (k : ℕ). 2 ^ k) c.bit.ensures
+    one_shl c.bit.result 16 (omega (arith, bit_of-lt c.args.t)) ∙ ap (λ (k : ℕ). 2 ^ k) c.bit.ensures

@@ -15,9 +15,9 @@ use Rattle.sheets.proofs.Judging.{check_done, check-refused}
 use Rattle.sheets.proofs.check_in.Goals.{In-Done}
 use Rattle.sheets.proofs.check_in.Goals as goal
 
-done : (c : In-Done) → Made ((under c.args.limits c.args.width c.args.stops.now c.args.moving)) c.args.set.mask c.args.values.now c.args.marks.now c.mark.new.marks
+done : (c : In-Done) → Made (under c.args.limits c.args.width c.args.stops.now c.args.moving) c.args.set.mask c.args.values.now c.args.marks.now c.mark.new.marks
 done c =
-    made ((under c.args.limits c.args.width c.args.stops.now c.args.moving)) c.args.set.mask c.args.values.now c.args.marks.now _ c.mark.result c.requires c.mark.ensures.answer
+    made (under c.args.limits c.args.width c.args.stops.now c.args.moving) c.args.set.mask c.args.values.now c.args.marks.now _ c.mark.result c.requires c.mark.ensures.answer
     (ap numbered c.in-Done.is) c.mark.ensures.marks
 
 pub slice_bounds-check_marks-end : goal.slice_bounds-check_marks-end
@@ -34,10 +34,10 @@ returns-in-Done c =
 
 pub returns-in-Refused : goal.returns-in-Refused
 returns-in-Refused c =
-    let told = refusal_is ((under c.args.limits c.args.width c.args.stops.now c.args.moving)) c.args.set.mask c.args.values.now (length c.args.marks.now) c.requires c.mark.result
+    let told = refusal_is (under c.args.limits c.args.width c.args.stops.now c.args.moving) c.args.set.mask c.args.values.now (length c.args.marks.now) c.requires c.mark.result
     (Refused c.in-Refused.why) c.mark.ensures.answer c.in-Refused.is in
-    let some : refusal ((under c.args.limits c.args.width c.args.stops.now c.args.moving)) c.args.set.mask c.args.values.now ≡ 0 → ⊥ = λ e. omega (arith, number-above c.in-Refused.why, told, e) in
-    ap plain (sym told) ∙ check-refused ((under c.args.limits c.args.width c.args.stops.now c.args.moving)) c.args.set.mask c.args.values.now some c.args.sheet.now
+    let some : refusal (under c.args.limits c.args.width c.args.stops.now c.args.moving) c.args.set.mask c.args.values.now ≡ 0 → ⊥ = λ e. omega (arith, number-above c.in-Refused.why, told, e) in
+    ap plain (sym told) ∙ check-refused (under c.args.limits c.args.width c.args.stops.now c.args.moving) c.args.set.mask c.args.values.now some c.args.sheet.now
 
 pub mark-requires : goal.mark-requires
 mark-requires c =

@@ -39,4 +39,4 @@ returns c =
     let variance = args.variance in
     let f : ℕ → Float → Float = λ i x. div binary64 variance x in
     tabling-ends _ _ _ _ _ c.loop-i.invariant c.loop-i-test.false
-    ∙ ap (λ (l : List Float). at_front l args.out.now) (tabulate-front f args.out.now args.n nan (pre))
+    ∙ ap (λ (l : List Float). at_front l args.out.now) (tabulate-front f args.out.now args.n nan pre)

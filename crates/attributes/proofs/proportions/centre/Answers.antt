@@ -16,8 +16,8 @@ pub total-damaged-requires : goal.total-damaged-requires
 total-damaged-requires c =
     let pre = c.requires in
     let args = c.args in
-    let h = held-P _ _ _ (pre) in
-    small-part args.c.count args.counts.now h.few h.in-counts (small-counts-P _ _ _ (pre))
+    let h = held-P _ _ _ pre in
+    small-part args.c.count args.counts.now h.few h.in-counts (small-counts-P _ _ _ pre)
 
 pub slice_bounds-total-end-in-Computed : goal.slice_bounds-total-end-in-Computed
 slice_bounds-total-end-in-Computed c =
@@ -27,8 +27,8 @@ pub total-inspected-requires : goal.total-inspected-requires
 total-inspected-requires c =
     let pre = c.requires in
     let args = c.args in
-    let h = held-P _ _ _ (pre) in
-    small-part args.c.count args.sizes.now h.few h.in-sizes (small-sizes-P _ _ _ (pre))
+    let h = held-P _ _ _ pre in
+    small-part args.c.count args.sizes.now h.few h.in-sizes (small-sizes-P _ _ _ pre)
 
 pub returns-in-Given : goal.returns-in-Given
 unfolding centre_p

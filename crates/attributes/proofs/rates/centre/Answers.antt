@@ -17,8 +17,8 @@ pub total-damaged-requires : goal.total-damaged-requires
 total-damaged-requires c =
     let pre = c.requires in
     let args = c.args in
-    let h = held-U _ _ _ (pre) in
-    small-part args.c.count args.counts.now h.few h.in-counts (small-counts-U _ _ _ (pre))
+    let h = held-U _ _ _ pre in
+    small-part args.c.count args.counts.now h.few h.in-counts (small-counts-U _ _ _ pre)
 
 pub slice_bounds-sum_of-end : goal.slice_bounds-sum_of-end
 slice_bounds-sum_of-end c =

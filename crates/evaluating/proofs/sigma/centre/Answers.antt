@@ -15,17 +15,17 @@ use Rattle.evaluating.proofs.Figures.{figure-refused, figure-done}
 use Rattle.evaluating.proofs.sigma.centre.Goals.{After-measure-w, In-Passed}
 use Rattle.evaluating.proofs.sigma.centre.Goals as goal
 
-passed-tests : (c : In-Passed) → first_of (ahead ((asked c.args.c c.args.values.now)) false false false) 0 ≡ 0
+passed-tests : (c : In-Passed) → first_of (ahead (asked c.args.c c.args.values.now) false false false) 0 ≡ 0
 passed-tests c =
     sym c.check.ensures ∙ ap tested c.in-Passed.is
 
-measured-sound : (c : After-measure-w) → c.measure-w.result.sound ≡ sound ((asked c.args.c c.args.values.now))
+measured-sound : (c : After-measure-w) → c.measure-w.result.sound ≡ sound (asked c.args.c c.args.values.now)
 measured-sound c =
     ap (λ (w : Measured). w.sound) c.measure-w.ensures
 
 pub measure-w-requires : goal.measure-w-requires
 measure-w-requires c =
-    (were-ahead ((asked c.args.c c.args.values.now)) false false false (passed-tests c)).right
+    (were-ahead (asked c.args.c c.args.values.now) false false false (passed-tests c)).right
 
 pub returns-then-not-w : goal.returns-then-not-w
 unfolding sigma_number
@@ -36,7 +36,7 @@ returns-then-not-w c =
 pub returns-in-Refused : goal.returns-in-Refused
 unfolding sigma_number
 returns-in-Refused c =
-    figure-refused _ c.in-Refused.why (number-ahead ((asked c.args.c c.args.values.now)) false false false c.in-Refused.is c.check.ensures) _
+    figure-refused _ c.in-Refused.why (number-ahead (asked c.args.c c.args.values.now) false false false c.in-Refused.is c.check.ensures) _
 
 pub returns-else-not-w : goal.returns-else-not-w
 unfolding sigma_number limits_of by_series dispersion_limits

@@ -11,22 +11,22 @@ use Rattle.replay_charts.proofs.head.read_head.Goals as goal
 -- ---- the numbers that were read
 
 kind-read : (c : In-Read)
-    → small_from (c.args.list.now) Kind 1 3 c.args.at ≡ read (c.in-Read.kind).value (c.in-Read.kind).next
+    → small_from c.args.list.now Kind 1 3 c.args.at ≡ read (c.in-Read.kind).value (c.in-Read.kind).next
 kind-read c =
     sym c.read_small.ensures.result_value ∙ ap of_small c.in-Read.is
 
 size-read : (c : In-Read-read_size)
-    → size_from (c.args.list.now) (c.in-Read.kind).value (c.in-Read.kind).next ≡ read (c.in-Read-read_size.size).value (c.in-Read-read_size.size).next
+    → size_from c.args.list.now (c.in-Read.kind).value (c.in-Read.kind).next ≡ read (c.in-Read-read_size.size).value (c.in-Read-read_size.size).next
 size-read c =
     sym c.read_size.ensures.result_value ∙ ap of_small c.in-Read-read_size.is
 
 set-read : (c : In-Read-read_small)
-    → small_from (c.args.list.now) Set 0 511 (c.in-Read-read_size.size).next ≡ read (c.in-Read-read_small.set).value (c.in-Read-read_small.set).next
+    → small_from c.args.list.now Set 0 511 (c.in-Read-read_size.size).next ≡ read (c.in-Read-read_small.set).value (c.in-Read-read_small.set).next
 set-read c =
     sym c.read_small-2.ensures.result_value ∙ ap of_small c.in-Read-read_small.is
 
 count-read : (c : In-Read-read_small-2)
-    → small_from (c.args.list.now) Samples 0 4096 (c.in-Read-read_small.set).next ≡ read (c.in-Read-read_small-2.count).value (c.in-Read-read_small-2.count).next
+    → small_from c.args.list.now Samples 0 4096 (c.in-Read-read_small.set).next ≡ read (c.in-Read-read_small-2.count).value (c.in-Read-read_small-2.count).next
 count-read c =
     sym c.read_small-3.ensures.result_value ∙ ap of_small c.in-Read-read_small-2.is
 

@@ -18,28 +18,28 @@ use Rattle.reports.proofs.flow.read_head.Goals as goal
 
 -- ---- the numbers that were read and are not wrong
 
-kind-passed : (c : Else-kind_wrong) → Passed kind_wrong (c.args.s.now) 0 (c.in-Number.kind) (c.in-Number.second)
+kind-passed : (c : Else-kind_wrong) → Passed kind_wrong c.args.s.now 0 c.in-Number.kind c.in-Number.second
 kind-passed c =
     record {
       stands = sym c.read_number.ensures ∙ c.in-Number.is;
       right = told c.kind_wrong.ensures c.if-kind_wrong.false;
     }
 
-made : (c : In-Done) → (size_wrong (c.in-Number.kind) (c.in-Number-read_number.size) ≡ false) × (c.in-Done.new ≡ new_chart (c.in-Number.kind) (c.in-Number-read_number.size))
+made : (c : In-Done) → (size_wrong c.in-Number.kind c.in-Number-read_number.size ≡ false) × (c.in-Done.new ≡ new_chart c.in-Number.kind c.in-Number-read_number.size)
 made c =
-    chart-made _ _ (told c.kind_wrong.ensures c.if-kind_wrong.false) (c.in-Done.new) (sym (ap (changed no_chart) c.in-Done.is) ∙ c.new.ensures)
+    chart-made _ _ (told c.kind_wrong.ensures c.if-kind_wrong.false) c.in-Done.new (sym (ap (changed no_chart) c.in-Done.is) ∙ c.new.ensures)
 
 size-passed : (c : In-Done)
-    → Passed (size_wrong (c.in-Number.kind)) (c.args.s.now) (c.in-Number.second) (c.in-Number-read_number.size) (c.in-Number-read_number.third)
+    → Passed (size_wrong c.in-Number.kind) c.args.s.now c.in-Number.second c.in-Number-read_number.size c.in-Number-read_number.third
 size-passed c =
     record { stands = sym c.read_number-2.ensures ∙ c.in-Number-read_number.is; right = (made c).0 }
 
-set-passed : (c : Else-set) → Passed too_large (c.args.s.now) (c.in-Number-read_number.third) (c.in-Number-read_number-2.set) (c.in-Number-read_number-2.fourth)
+set-passed : (c : Else-set) → Passed too_large c.args.s.now c.in-Number-read_number.third c.in-Number-read_number-2.set c.in-Number-read_number-2.fourth
 set-passed c =
-    record { stands = sym c.read_number-3.ensures ∙ c.in-Number-read_number-2.is; right = le-ltb _ (c.in-Number-read_number-2.set) c.if-set.false }
+    record { stands = sym c.read_number-3.ensures ∙ c.in-Number-read_number-2.is; right = le-ltb _ c.in-Number-read_number-2.set c.if-set.false }
 
 count-passed : (c : Else-count_wrong)
-    → Passed (count_wrong (c.in-Number-read_number.size)) (c.args.s.now) (c.in-Number-read_number-2.fourth) (c.in-Number-read_number-3.count) (c.in-Number-read_number-3.next)
+    → Passed (count_wrong c.in-Number-read_number.size) c.args.s.now c.in-Number-read_number-2.fourth c.in-Number-read_number-3.count c.in-Number-read_number-3.next
 count-passed c =
     record {
       stands = sym c.read_number-4.ensures ∙ c.in-Number-read_number-3.is;
@@ -124,9 +124,9 @@ unfolding head_from
 returns c =
     let is = sym (made (goal.at.returns c).In-Done).1 in
     let right =
-    legal (c.in-Number.kind) (c.in-Number-read_number.size) (c.in-Number-read_number-2.set) (c.in-Number-read_number-3.count) (kind-passed (goal.at.returns c).Else-kind_wrong).right (size-passed (goal.at.returns c).In-Done).right
+    legal c.in-Number.kind c.in-Number-read_number.size c.in-Number-read_number-2.set c.in-Number-read_number-3.count (kind-passed (goal.at.returns c).Else-kind_wrong).right (size-passed (goal.at.returns c).In-Done).right
     c.if-set.false (count-passed c).right in record {
       said = goes 12 kind_wrong c.args.s.now 0 (after_kind c.args.s.now) (kind-passed (goal.at.returns c).Else-kind_wrong) ∙ goes 1 (size_wrong c.in-Number.kind) c.args.s.now c.in-Number.second (after_size c.args.s.now c.in-Number.kind) (size-passed (goal.at.returns c).In-Done) ∙ goes 4 too_large c.args.s.now c.in-Number-read_number.third (after_set c.args.s.now c.in-Number.kind c.in-Number-read_number.size) (set-passed (goal.at.returns c).Else-set)
-          ∙ goes 5 (count_wrong c.in-Number-read_number.size) c.args.s.now c.in-Number-read_number-2.fourth (after_count c.args.s.now c.in-Number.kind c.in-Number-read_number.size c.in-Number-read_number-2.set) (count-passed c) ∙ ap (λ (chart : Chart). after_head (c.args.s.now) (Names ((λ (chart : Chart). with_count (with_set chart (record { mask = c.in-Number-read_number-2.set })) (c.in-Number-read_number-3.count)) chart) (c.in-Number-read_number-3.next))) is;
-      legal = transport (λ i. Legal ((λ (chart : Chart). with_count (with_set chart (record { mask = c.in-Number-read_number-2.set })) (c.in-Number-read_number-3.count)) (is i))) right;
+          ∙ goes 5 (count_wrong c.in-Number-read_number.size) c.args.s.now c.in-Number-read_number-2.fourth (after_count c.args.s.now c.in-Number.kind c.in-Number-read_number.size c.in-Number-read_number-2.set) (count-passed c) ∙ ap (λ (chart : Chart). after_head c.args.s.now (Names ((λ (chart : Chart). with_count (with_set chart (record { mask = c.in-Number-read_number-2.set })) c.in-Number-read_number-3.count) chart) c.in-Number-read_number-3.next)) is;
+      legal = transport (λ i. Legal ((λ (chart : Chart). with_count (with_set chart (record { mask = c.in-Number-read_number-2.set })) c.in-Number-read_number-3.count) (is i))) right;
     }

@@ -9,11 +9,11 @@ use Rattle.sets.proofs.RuleSet.named.Goals as goal
 
 -- ---- the name, and the spellings that it is not
 
-not-shewhart : (c : Else-spelt) → same (c.args.name.now) shewhart ≡ false
+not-shewhart : (c : Else-spelt) → same c.args.name.now shewhart ≡ false
 not-shewhart c =
     sym c.spelt.ensures ∙ c.if-spelt.false
 
-not-nelson : (c : Else-spelt-2) → same (c.args.name.now) nelson ≡ false
+not-nelson : (c : Else-spelt-2) → same c.args.name.now nelson ≡ false
 not-nelson c =
     sym c.spelt-2.ensures ∙ c.if-spelt-2.false
 

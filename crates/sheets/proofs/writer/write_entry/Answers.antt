@@ -14,14 +14,14 @@ pub slice_bounds-put-count : goal.slice_bounds-put-count
 slice_bounds-put-count c =
     let args = c.args in
     let pre = c.requires in
-    second-start (groups args.skip) (groups args.marks) args.out.now c.put-a.new.out c.put-a.result (pre) c.put-a.ensures.room
+    second-start (groups args.skip) (groups args.marks) args.out.now c.put-a.new.out c.put-a.result pre c.put-a.ensures.room
     c.put-a.ensures.count
 
 pub slice_bounds-put-start : goal.slice_bounds-put-start
 slice_bounds-put-start c =
     let args = c.args in
     let pre = c.requires in
-    second-start (groups args.skip) (groups args.marks) args.out.now c.put-a.new.out c.put-a.result (pre) c.put-a.ensures.room
+    second-start (groups args.skip) (groups args.marks) args.out.now c.put-a.new.out c.put-a.result pre c.put-a.ensures.room
     c.put-a.ensures.count
 
 pub slice_bounds-put-end : goal.slice_bounds-put-end
@@ -32,7 +32,7 @@ pub put-b-requires : goal.put-b-requires
 put-b-requires c =
     let args = c.args in
     let pre = c.requires in
-    second-room (groups args.skip) (groups args.marks) args.out.now c.put-a.new.out c.put-a.result (pre) c.put-a.ensures.room
+    second-room (groups args.skip) (groups args.marks) args.out.now c.put-a.new.out c.put-a.result pre c.put-a.ensures.room
     c.put-a.ensures.count
 
 pub overflow_add-result : goal.overflow_add-result
@@ -41,7 +41,7 @@ overflow_add-result c =
     let pre = c.requires in
     omega (
       arith,
-      (second-fills (groups args.skip) (groups args.marks) args.out.now c.put-a.new.out c.put-a.result (pre) c.put-a.ensures.room
+      (second-fills (groups args.skip) (groups args.marks) args.out.now c.put-a.new.out c.put-a.result pre c.put-a.ensures.room
           c.put-a.ensures.count c.put-b.new.out c.put-b.result c.put-b.ensures.room c.put-b.ensures.count).0,
       pre,
     )
@@ -50,6 +50,6 @@ pub returns : goal.returns
 returns c =
     let args = c.args in
     let pre = c.requires in
-    let all = second-fills (groups args.skip) (groups args.marks) args.out.now c.put-a.new.out c.put-a.result (pre) c.put-a.ensures.room
+    let all = second-fills (groups args.skip) (groups args.marks) args.out.now c.put-a.new.out c.put-a.result pre c.put-a.ensures.room
     c.put-a.ensures.count c.put-b.new.out c.put-b.result c.put-b.ensures.room c.put-b.ensures.count in
     record { count = all.0; room = all.1 }

@@ -15,14 +15,14 @@ pub slice_bounds-write_entry-count : goal.slice_bounds-write_entry-count
 slice_bounds-write_entry-count c =
     let args = c.args in
     let pre = c.requires in
-    second-start (groups args.points) (groups args.set ++ groups args.marked) args.out.now c.put-a.new.out c.put-a.result (pre)
+    second-start (groups args.points) (groups args.set ++ groups args.marked) args.out.now c.put-a.new.out c.put-a.result pre
     c.put-a.ensures.room c.put-a.ensures.count
 
 pub slice_bounds-write_entry-start : goal.slice_bounds-write_entry-start
 slice_bounds-write_entry-start c =
     let args = c.args in
     let pre = c.requires in
-    second-start (groups args.points) (groups args.set ++ groups args.marked) args.out.now c.put-a.new.out c.put-a.result (pre)
+    second-start (groups args.points) (groups args.set ++ groups args.marked) args.out.now c.put-a.new.out c.put-a.result pre
     c.put-a.ensures.room c.put-a.ensures.count
 
 pub slice_bounds-write_entry-end : goal.slice_bounds-write_entry-end
@@ -33,7 +33,7 @@ pub write_entry-b-requires : goal.write_entry-b-requires
 write_entry-b-requires c =
     let args = c.args in
     let pre = c.requires in
-    second-room (groups args.points) (groups args.set ++ groups args.marked) args.out.now c.put-a.new.out c.put-a.result (pre)
+    second-room (groups args.points) (groups args.set ++ groups args.marked) args.out.now c.put-a.new.out c.put-a.result pre
     c.put-a.ensures.room c.put-a.ensures.count
 
 pub overflow_add-result : goal.overflow_add-result
@@ -43,7 +43,7 @@ overflow_add-result c =
     omega (
       arith,
       (second-fills (groups args.points) (groups args.set ++ groups args.marked) args.out.now c.put-a.new.out
-          c.put-a.result (pre) c.put-a.ensures.room c.put-a.ensures.count c.write_entry-b.new.out c.write_entry-b.result c.write_entry-b.ensures.room
+          c.put-a.result pre c.put-a.ensures.room c.put-a.ensures.count c.write_entry-b.new.out c.write_entry-b.result c.write_entry-b.ensures.room
           c.write_entry-b.ensures.count).0,
       pre,
     )
@@ -52,6 +52,6 @@ pub returns : goal.returns
 returns c =
     let args = c.args in
     let pre = c.requires in
-    let all = second-fills (groups args.points) (groups args.set ++ groups args.marked) args.out.now c.put-a.new.out c.put-a.result (pre)
+    let all = second-fills (groups args.points) (groups args.set ++ groups args.marked) args.out.now c.put-a.new.out c.put-a.result pre
     c.put-a.ensures.room c.put-a.ensures.count c.write_entry-b.new.out c.write_entry-b.result c.write_entry-b.ensures.room c.write_entry-b.ensures.count in
     record { count = all.0; room = all.1 }
