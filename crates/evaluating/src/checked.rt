@@ -33,7 +33,7 @@ fn mark_both(
     ensures answer { result ≡ record {
       main = w.main;
       dispersion = w.dispersion;
-      marks = number_of (marks_of (under w.main width stops.now false) set.mask main.entry.now)
+      marks = number_of (marks_of (under w.main width stops.now false) set.mask main.now)
           + number_of (marks_of (under w.dispersion width stops.now moving) set.mask dispersion.now);
     } }
     ensures main_marks { main_marks.new

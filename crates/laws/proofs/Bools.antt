@@ -11,8 +11,11 @@ both false b h = absurd (false≢true h)
 pub told : {answer test said : Bool} → answer ≡ test → answer ≡ said → test ≡ said
 told e h = sym e ∙ h
 
-pub told-not : {answer test said : Bool} → answer ≡ test → answer ≡ said → not test ≡ not said
-told-not e h = ap not (sym e ∙ h)
+pub told-not : {answer test said : Bool} → answer ≡ test → not answer ≡ said → not test ≡ said
+told-not e h = rw e at h
+
+pub told-against : {answer test said : Bool} → answer ≡ test → answer ≡ said → not test ≡ not said
+told-against e h = ap not (sym e ∙ h)
 
 pub or_left : (a b : Bool) → (a || b) ≡ false → a ≡ false
 or_left true b e = e

@@ -51,7 +51,7 @@ fn digits(a: u64) -> u64
     let mut rem = (a << 2) - 0x40_0000_0000_0000;
     let mut trial: u64 = 0x50_0000_0000_0000;
     let mut unit: u64 = 0x10_0000_0000_0000;
-    while rem != 0 {
+    'digits: while rem != 0 {
         // every bit is set where the digit is 1
         let taken = std::num::wrapping_sub_u64((rem < trial) as u64, 1);
         rem = (rem << 1) - ((trial << 1) & taken);

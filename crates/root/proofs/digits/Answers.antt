@@ -9,8 +9,8 @@ pub overflow_sub-rem : goal.overflow_sub-rem
 overflow_sub-rem c =
     omega (arith, c.requires.0, c.requires.1)
 
-pub loop-rem-init : goal.loop-rem-init
-loop-rem-init c =
+pub digits-init : goal.digits-init
+digits-init c =
     let fits : c.args.a * 4 < 2 ^ 64 = omega (arith, c.requires.1) in
     rw (mod-eq_of_lt fits) (start c.args.a c.requires.0 c.requires.1)
 
@@ -22,10 +22,10 @@ pub wrapping_sub_u64-taken-requires : goal.wrapping_sub_u64-taken-requires
 wrapping_sub_u64-taken-requires c =
     tt
 
-pub overflow_sub-rem-in-loop-rem : goal.overflow_sub-rem-in-loop-rem
-overflow_sub-rem-in-loop-rem c =
+pub overflow_sub-rem-in-digits : goal.overflow_sub-rem-in-digits
+overflow_sub-rem-in-digits c =
     let k = c.wrapping_sub_u64-taken in
-    enough c.loop-rem.invariant k.result (omega (arith, k.type_inv)) k.ensures.value
+    enough c.digits.invariant k.result (omega (arith, k.type_inv)) k.ensures.value
 
 pub overflow_sub-trial : goal.overflow_sub-trial
 overflow_sub-trial c =
@@ -33,21 +33,21 @@ overflow_sub-trial c =
 
 pub overflow_add-trial : goal.overflow_add-trial
 overflow_add-trial c =
-    omega (arith, and_le_l (c.loop-rem.unit * 2 % 2 ^ 64) c.wrapping_sub_u64-taken.result)
+    omega (arith, and_le_l (c.digits.unit * 2 % 2 ^ 64) c.wrapping_sub_u64-taken.result)
 
 pub returns-then-unit-eq0 : goal.returns-then-unit-eq0
 returns-then-unit-eq0 c =
     let k = c.wrapping_sub_u64-taken in
-    ended c.loop-rem.invariant k.result (omega (arith, k.type_inv)) k.ensures.value (omega arith)
+    ended c.digits.invariant k.result (omega (arith, k.type_inv)) k.ensures.value (omega arith)
 
-pub loop-rem-smaller : goal.loop-rem-smaller
-loop-rem-smaller c =
+pub digits-smaller : goal.digits-smaller
+digits-smaller c =
     omega arith
 
-pub loop-rem-preserved : goal.loop-rem-preserved
-loop-rem-preserved c =
+pub digits-preserved : goal.digits-preserved
+digits-preserved c =
     let k = c.wrapping_sub_u64-taken in
-    again c.loop-rem.invariant k.result (omega (arith, k.type_inv)) k.ensures.value (omega arith)
+    again c.digits.invariant k.result (omega (arith, k.type_inv)) k.ensures.value (omega arith)
 
 pub overflow_sub-result : goal.overflow_sub-result
 overflow_sub-result c =
@@ -55,4 +55,4 @@ overflow_sub-result c =
 
 pub returns : goal.returns
 returns c =
-    stopped c.loop-rem.invariant (omega arith)
+    stopped c.digits.invariant (omega arith)

@@ -4,10 +4,10 @@ use Rattle.std.proofs.Common.{◌*◌, ◌^◌}
 use Rattle.root.proofs.Turns.{Turn}
 use Rattle.root.proofs.digits.Given as goal
 
-abbrev pub invariant-loop-rem : goal.invariant-loop-rem
-invariant-loop-rem l =
+abbrev pub invariant-digits : goal.invariant-digits
+invariant-digits l =
     Turn (l.a * 2 ^ 54) l.rem l.trial l.unit
 
-abbrev pub decreases-loop-rem : goal.decreases-loop-rem
-decreases-loop-rem l =
+abbrev pub decreases-digits : goal.decreases-digits
+decreases-digits l =
     l.unit

@@ -47,19 +47,19 @@ unfolding ahead first_of
 returns-then-wrong c =
     let args = c.args in
     let stops : stops_wrong (main_points args.moving (length args.values.now)) args.stops.now ≡ true = sym c.wrong.ensures ∙ c.if-wrong.true in
-    simp (few (goal.at.returns-then-wrong c).Else-values-gt-MOST, stops)
+    simp (le-ltb 4096 (length args.values.now) (omega arith), stops)
 
 pub returns-then-mask-gt-ALL : goal.returns-then-mask-gt-ALL
 unfolding ahead first_of
 returns-then-mask-gt-ALL c =
     let args = c.args in
-    simp (few (goal.at.returns-then-mask-gt-ALL c).Else-values-gt-MOST, stopped (goal.at.returns-then-mask-gt-ALL c).Else-wrong, lt-ltb 511 args.set.mask (omega (arith, c.if-mask-gt-ALL.true)))
+    simp (le-ltb 4096 (length args.values.now) (omega arith), stopped (goal.at.returns-then-mask-gt-ALL c).Else-wrong, lt-ltb 511 args.set.mask (omega (arith, c.if-mask-gt-ALL.true)))
 
 pub returns-then-width-gt-OWN_WIDTHS : goal.returns-then-width-gt-OWN_WIDTHS
 unfolding ahead first_of
 returns-then-width-gt-OWN_WIDTHS c =
     let args = c.args in
-    simp (few (goal.at.returns-then-width-gt-OWN_WIDTHS c).Else-values-gt-MOST, stopped (goal.at.returns-then-width-gt-OWN_WIDTHS c).Else-wrong, small (goal.at.returns-then-width-gt-OWN_WIDTHS c).Else-mask-gt-ALL, lt-ltb 1 args.width (omega (arith, c.if-width-gt-OWN_WIDTHS.true)))
+    simp (le-ltb 4096 (length args.values.now) (omega arith), stopped (goal.at.returns-then-width-gt-OWN_WIDTHS c).Else-wrong, le-ltb 511 args.set.mask (omega arith), lt-ltb 1 args.width (omega (arith, c.if-width-gt-OWN_WIDTHS.true)))
 
 pub returns-then-not-finite_limits : goal.returns-then-not-finite_limits
 unfolding ahead first_of

@@ -20,8 +20,8 @@ pub returns-then-b-gt-MOST : goal.returns-then-b-gt-MOST
 unfolding early values_after first_of
 returns-then-b-gt-MOST c =
     record {
-      value = simp (eq-eqb _ _ c.if-b-ne0.false, lt-ltb _ _ c.if-b-gt-MOST.true) refl;
-      vs_after = simp (eq-eqb _ _ c.if-b-ne0.false, lt-ltb _ _ c.if-b-gt-MOST.true) refl;
+      value = simp (eq-eqb (length c.args.b.now % 8) 0 (omega arith), lt-ltb _ _ c.if-b-gt-MOST.true) refl;
+      vs_after = simp (eq-eqb (length c.args.b.now % 8) 0 (omega arith), lt-ltb _ _ c.if-b-gt-MOST.true) refl;
     }
 
 pub returns-then-set : goal.returns-then-set

@@ -1,6 +1,6 @@
 -- `PChart::with_centre` meets its contract, by its test. Assumes nothing.
 use Rattle.std.proofs.Common.{sym, ◌∙◌}
-use Rattle.laws.proofs.Bools.{told-not}
+use Rattle.laws.proofs.Bools.{told-against}
 use Rattle.laws.proofs.Refusals.{passed, refused, none-applies}
 use Rattle.attributes.specs.Records.{with_centre_p}
 use Rattle.attributes.proofs.PChart.with_centre.Goals as goal
@@ -8,9 +8,9 @@ use Rattle.attributes.proofs.PChart.with_centre.Goals as goal
 pub returns-then-not-allowed : goal.returns-then-not-allowed
 unfolding with_centre_p
 returns-then-not-allowed c =
-    sym (refused _ _ _ _ (told-not c.allowed.ensures c.if-not-allowed.true))
+    sym (refused _ _ _ _ (told-against c.allowed.ensures c.if-not-allowed.true))
 
 pub returns : goal.returns
 unfolding with_centre_p
 returns c =
-    sym (passed _ _ _ _ (told-not c.allowed.ensures c.if-not-allowed.false) ∙ none-applies _)
+    sym (passed _ _ _ _ (told-against c.allowed.ensures c.if-not-allowed.false) ∙ none-applies _)

@@ -1,6 +1,6 @@
 -- `rates::sample` meets its contract: its tests are those of the definition, in the same order. Assumes nothing.
 use Rattle.std.proofs.Common.{sym, ◌∙◌, le-ltb, lt-ltb}
-use Rattle.laws.proofs.Bools.{told-not}
+use Rattle.laws.proofs.Bools.{told-against}
 use Rattle.laws.proofs.Refusals.{passed, refused, none-applies}
 use Rattle.attributes.proofs.rates.sample.Goals as goal
 
@@ -10,8 +10,8 @@ returns-then-damaged-gt-MOST c =
 
 pub returns-then-not-allowed : goal.returns-then-not-allowed
 returns-then-not-allowed c =
-    sym (passed _ _ _ _ (le-ltb _ _ c.if-damaged-gt-MOST.false) ∙ refused _ _ _ _ (told-not c.allowed.ensures c.if-not-allowed.true))
+    sym (passed _ _ _ _ (le-ltb _ _ c.if-damaged-gt-MOST.false) ∙ refused _ _ _ _ (told-against c.allowed.ensures c.if-not-allowed.true))
 
 pub returns : goal.returns
 returns c =
-    sym (passed _ _ _ _ (le-ltb _ _ c.if-damaged-gt-MOST.false) ∙ passed _ _ _ _ (told-not c.allowed.ensures c.if-not-allowed.false) ∙ none-applies _)
+    sym (passed _ _ _ _ (le-ltb _ _ c.if-damaged-gt-MOST.false) ∙ passed _ _ _ _ (told-against c.allowed.ensures c.if-not-allowed.false) ∙ none-applies _)

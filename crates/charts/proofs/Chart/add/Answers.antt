@@ -5,7 +5,7 @@ use native.Mathlib.Omega.{arith}
 use borrow.Author.Tests.{lt-ltb, le-ltb, le-leb, lt-leb, eq-eqb, ne_eqb}
 use lib.Dec.{eqb}
 use lib.ListN.{length}
-use Rattle.laws.proofs.Bools.{told, told-not}
+use Rattle.laws.proofs.Bools.{told, told-against}
 use Rattle.laws.proofs.Refusals.{passed, refused, none-applies}
 use Rattle.floats.specs.Finite.{all_finite}
 use Rattle.charts.specs.Records.{record_wrong, add_of, values_after}
@@ -40,15 +40,16 @@ fits c =
 
 finite : (c : Else-not-all_finite) → not (all_finite c.args.sample.now) ≡ false
 finite c =
-    told-not c.all_finite.ensures c.if-not-all_finite.false
+    told-against c.all_finite.ensures c.if-not-all_finite.false
 
 -- ---- the rest
 
 pub returns-then-sample-self : goal.returns-then-sample-self
 unfolding add_of values_after
 returns-then-sample-self c =
-    record {
-      answer = sym (passed _ _ _ _ (right (goal.at.returns-then-sample-self c).Else-record_wrong) ∙ refused _ _ _ _ (ap not (ne_eqb _ _ c.if-sample-self.true)));
+    let args = c.args in
+    let right : record_wrong args.self (length args.values.now) ≡ false = search (rules, told) in record {
+      answer = sym (passed _ _ _ _ right ∙ refused _ _ _ _ (ap not (ne_eqb _ _ c.if-sample-self.true)));
       values = refl;
     }
 
@@ -56,7 +57,7 @@ pub returns-then-not-all_finite : goal.returns-then-not-all_finite
 unfolding add_of values_after
 returns-then-not-all_finite c =
     record {
-      answer = sym (passed _ _ _ _ (right (goal.at.returns-then-not-all_finite c).Else-record_wrong) ∙ passed _ _ _ _ (fits (goal.at.returns-then-not-all_finite c).Else-sample-self) ∙ refused _ _ _ _ (told-not c.all_finite.ensures c.if-not-all_finite.true));
+      answer = sym (passed _ _ _ _ (right (goal.at.returns-then-not-all_finite c).Else-record_wrong) ∙ passed _ _ _ _ (fits (goal.at.returns-then-not-all_finite c).Else-sample-self) ∙ refused _ _ _ _ (told-against c.all_finite.ensures c.if-not-all_finite.true));
       values = refl;
     }
 

@@ -1,7 +1,7 @@
 -- `checks::check` meets its contract: its tests are those of the definition, in the same order. Assumes nothing.
 use Rattle.std.proofs.Common.{◌≡◌, ℕ, ◌*◌, true, false, length, take, sym, ap, ◌∙◌, arith, rules}
 use native.Mathlib.Nat.{sub-zero}
-use Rattle.laws.proofs.Bools.{told, told-not}
+use Rattle.laws.proofs.Bools.{told, told-against}
 use Rattle.laws.proofs.Refusals.{passed, refused, none-applies}
 use Rattle.floats.specs.Finite.{all_finite}
 use Rattle.charts.specs.Records.{record_wrong}
@@ -63,10 +63,10 @@ pub returns-then-not-all_finite : goal.returns-then-not-all_finite
 returns-then-not-all_finite c =
     sym (passed _ _ _ _ (right (goal.at.returns-then-not-all_finite c).Else-record_wrong) ∙ passed _ _ _ _ c.if-wrong.false ∙ passed _ _ _ _ c.if-bad_width.false
     ∙ passed _ _ _ _ (enough (goal.at.returns-then-not-all_finite c).Else-too_few) ∙ passed _ _ _ _ c.if-short.false
-    ∙ refused _ _ _ _ (told-not (cut (goal.at.returns-then-not-all_finite c).After-all_finite) c.if-not-all_finite.true))
+    ∙ refused _ _ _ _ (told-against (cut (goal.at.returns-then-not-all_finite c).After-all_finite) c.if-not-all_finite.true))
 
 pub returns : goal.returns
 returns c =
     sym (passed _ _ _ _ (right (goal.at.returns c).Else-record_wrong) ∙ passed _ _ _ _ c.if-wrong.false ∙ passed _ _ _ _ c.if-bad_width.false
     ∙ passed _ _ _ _ (enough (goal.at.returns c).Else-too_few) ∙ passed _ _ _ _ c.if-short.false
-    ∙ passed _ _ _ _ (told-not (cut (goal.at.returns c).After-all_finite) c.if-not-all_finite.false) ∙ none-applies _)
+    ∙ passed _ _ _ _ (told-against (cut (goal.at.returns c).After-all_finite) c.if-not-all_finite.false) ∙ none-applies _)

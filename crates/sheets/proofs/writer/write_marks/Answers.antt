@@ -56,7 +56,7 @@ write_head-a-requires c =
     let args = c.args in
     let total = sheet-length args.set args.marks.now c.measure-measured.result.marked c.measure-measured.result.len c.measure-measured.ensures c.size.result
     c.size-2.result c.size-3.result c.size.ensures.0 c.size-2.ensures.0 c.size-3.ensures.0 in
-    let room : length (sheet_of args.set args.marks.now) ≤ length args.out.now = omega (arith, total, c.if-out-head.false) in
+    let room : length (sheet_of args.set args.marks.now) ≤ length args.out.now = omega (arith, total) in
     head-fits args.set args.marks.now c.measure-measured.result.marked c.measure-measured.result.len c.measure-measured.ensures args.out.now room
 
 pub slice_bounds-write_entries-count : goal.slice_bounds-write_entries-count
@@ -64,7 +64,7 @@ slice_bounds-write_entries-count c =
     let args = c.args in
     let total = sheet-length args.set args.marks.now c.measure-measured.result.marked c.measure-measured.result.len c.measure-measured.ensures c.size.result
     c.size-2.result c.size-3.result c.size.ensures.0 c.size-2.ensures.0 c.size-3.ensures.0 in
-    let room : length (sheet_of args.set args.marks.now) ≤ length args.out.now = omega (arith, total, c.if-out-head.false) in
+    let room : length (sheet_of args.set args.marks.now) ≤ length args.out.now = omega (arith, total) in
     second-start (head_of (length args.marks.now) args.set c.measure-measured.result.marked) (entries_of 0 args.marks.now) args.out.now
     c.write_head-a.new.out c.write_head-a.result
     (parts-fit args.set args.marks.now c.measure-measured.result.marked c.measure-measured.result.len c.measure-measured.ensures args.out.now room)
@@ -75,7 +75,7 @@ slice_bounds-write_entries-start c =
     let args = c.args in
     let total = sheet-length args.set args.marks.now c.measure-measured.result.marked c.measure-measured.result.len c.measure-measured.ensures c.size.result
     c.size-2.result c.size-3.result c.size.ensures.0 c.size-2.ensures.0 c.size-3.ensures.0 in
-    let room : length (sheet_of args.set args.marks.now) ≤ length args.out.now = omega (arith, total, c.if-out-head.false) in
+    let room : length (sheet_of args.set args.marks.now) ≤ length args.out.now = omega (arith, total) in
     second-start (head_of (length args.marks.now) args.set c.measure-measured.result.marked) (entries_of 0 args.marks.now) args.out.now
     c.write_head-a.new.out c.write_head-a.result
     (parts-fit args.set args.marks.now c.measure-measured.result.marked c.measure-measured.result.len c.measure-measured.ensures args.out.now room)
@@ -91,7 +91,7 @@ write_entries-b-requires c =
     let pre = c.requires in
     let total = sheet-length args.set args.marks.now c.measure-measured.result.marked c.measure-measured.result.len c.measure-measured.ensures c.size.result
     c.size-2.result c.size-3.result c.size.ensures.0 c.size-2.ensures.0 c.size-3.ensures.0 in
-    let room : length (sheet_of args.set args.marks.now) ≤ length args.out.now = omega (arith, total, c.if-out-head.false) in (
+    let room : length (sheet_of args.set args.marks.now) ≤ length args.out.now = omega (arith, total) in (
       pre,
       second-room (head_of (length args.marks.now) args.set c.measure-measured.result.marked) (entries_of 0 args.marks.now)
           args.out.now c.write_head-a.new.out c.write_head-a.result
@@ -102,11 +102,7 @@ write_entries-b-requires c =
 pub overflow_add-result : goal.overflow_add-result
 overflow_add-result c =
     let total = sheet-length c.args.set c.args.marks.now c.measure-measured.result.marked c.measure-measured.result.len c.measure-measured.ensures c.size.result c.size-2.result c.size-3.result c.size.ensures.0 c.size-2.ensures.0 c.size-3.ensures.0 in
-    let room : length (sheet_of c.args.set c.args.marks.now) ≤ length c.args.out.now = omega (
-      arith,
-      total,
-      c.if-out-head.false,
-    ) in
+    let room : length (sheet_of c.args.set c.args.marks.now) ≤ length c.args.out.now = omega (arith, total) in
     omega (
       arith,
       (second-fills (head_of
@@ -120,7 +116,7 @@ returns c =
     let args = c.args in
     let total = sheet-length args.set args.marks.now c.measure-measured.result.marked c.measure-measured.result.len c.measure-measured.ensures c.size.result
     c.size-2.result c.size-3.result c.size.ensures.0 c.size-2.ensures.0 c.size-3.ensures.0 in
-    let room : length (sheet_of args.set args.marks.now) ≤ length args.out.now = omega (arith, total, c.if-out-head.false) in
+    let room : length (sheet_of args.set args.marks.now) ≤ length args.out.now = omega (arith, total) in
     let holds = le-leb (length (sheet_of args.set args.marks.now)) (length args.out.now) room in
     let fills = second-fills (head_of (length args.marks.now) args.set c.measure-measured.result.marked) (entries_of 0 args.marks.now)
     args.out.now c.write_head-a.new.out c.write_head-a.result
