@@ -4,6 +4,7 @@ use mathlib.Core.Bool.{true}
 use mathlib.Core.List.{List}
 use Prim.Native.Nat.{ℕ, ◌+◌, ◌-◌}
 use native.Mathlib.Omega.{arith}
+use borrow.Author.Rules.{rules}
 use lib.Ieee.{binary64, of_bits}
 use lib.ListN.{length, take, replicate, length-replicate}
 use Rattle.floats.specs.Finite.{all_finite}
@@ -22,6 +23,7 @@ use Rattle.reports.specs.Report.{first_index, refusal_of}
 use Rattle.reports.specs.Steps.{size, Legal}
 use Rattle.reports.proofs.Marks.{both-number}
 use Rattle.laws.specs.Front.{lent_after}
+use Rattle.laws.proofs.Bools.{told}
 use Rattle.laws.proofs.Rooms.{told-as}
 use Rattle.reports.proofs.Evaluations.{short, few-samples, points-fit, at_room, refused-so, done-so, main-limits, dispersion-limits, marks-number}
 use Rattle.reports.proofs.Evaluations.{some-points, finite-main, finite-dispersion, not_finite, report-refused, report-done}
@@ -66,20 +68,20 @@ done c =
 
 none-refused : (c : In-Done) → refusal_of (asked c.args.chart c.args.values.now) ≡ 0
 none-refused c =
-    done-so (asked c.args.chart c.args.values.now) c.requires.legal c.requires.whole (sym c.all_finite.ensures ∙ c.if-not-all_finite.false) refl c.in-Done.e (done c)
+    done-so (asked c.args.chart c.args.values.now) c.requires.legal c.requires.whole (search (rules, told)) refl c.in-Done.e (done c)
 
 main-is : (c : In-Done) → c.in-Done.e.main ≡ limits_of (asked c.args.chart c.args.values.now) 0
 main-is c =
-    main-limits (asked c.args.chart c.args.values.now) c.requires.legal c.requires.whole (sym c.all_finite.ensures ∙ c.if-not-all_finite.false) refl c.in-Done.e (done c)
+    main-limits (asked c.args.chart c.args.values.now) c.requires.legal c.requires.whole (search (rules, told)) refl c.in-Done.e (done c)
 
 dispersion-is : (c : In-Done) → c.in-Done.e.dispersion ≡ limits_of (asked c.args.chart c.args.values.now) 1
 dispersion-is c =
-    dispersion-limits (asked c.args.chart c.args.values.now) c.requires.legal c.requires.whole (sym c.all_finite.ensures ∙ c.if-not-all_finite.false) refl c.in-Done.e (done c)
+    dispersion-limits (asked c.args.chart c.args.values.now) c.requires.legal c.requires.whole (search (rules, told)) refl c.in-Done.e (done c)
 
 number_is : (c : In-Done)
     → c.in-Done.e.marks ≡ number_of (series_marks (asked c.args.chart c.args.values.now) 0) + number_of (series_marks (asked c.args.chart c.args.values.now) 1)
 number_is c =
-    marks-number (asked c.args.chart c.args.values.now) c.requires.legal c.requires.whole (sym c.all_finite.ensures ∙ c.if-not-all_finite.false) refl c.in-Done.e (done c)
+    marks-number (asked c.args.chart c.args.values.now) c.requires.legal c.requires.whole (search (rules, told)) refl c.in-Done.e (done c)
 
 marks-are : (c : In-Done) → take ((asked c.args.chart c.args.values.now).chart.count - 0) c.evaluate.new.main_marks ≡ series_marks (asked c.args.chart c.args.values.now) 0
 marks-are c =
