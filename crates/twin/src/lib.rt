@@ -1,5 +1,5 @@
-// The library's functions for C: values are bytes, eight to an f64, marks are bytes, two to a point, low byte first. Each answer but
-// that of the root, which is an f64, has document 01's number in bits 0 to 7.
+// The library's functions over bytes, which `twin_c` exports to C: values are bytes, eight to an f64, marks are bytes, two to a
+// point, low byte first. Each answer but that of the root, which is an f64, has document 01's number in bits 0 to 7.
 #![tactic(auto)]
 
 ghost use Rattle.std.specs.Prelude.{◌≡◌, ◌+◌, ◌*◌, ◌/◌, ◌%◌, ◌^◌, ◌≤◌, ◌<◌, length, take, drop};

@@ -29,4 +29,4 @@ pub float_from_bits-result : goal.float_from_bits-result
 float_from_bits-result c =
     let w = c.args.pattern in
     subst (λ (b : Bool). T (not b)) (sym (nan_bits_above binary64 w))
-    (le→nltb (ones binary64 * hid binary64) (w % top binary64) (omega (arith, c.if-pattern-gt9218868437227405312.false, and_mask w 63)))
+    (le→nltb (ones binary64 * hid binary64) (w % top binary64) (omega (arith, and_mask w 63)))

@@ -1,6 +1,7 @@
 -- `Chart::with_set` meets its contract: its tests are those of the definition, in the same order. Assumes nothing.
 use mathlib.Core.Path.{◌≡◌, sym, ◌∙◌}
 use mathlib.Core.Bool.{true}
+use native.Mathlib.Omega.{arith}
 use borrow.Author.Tests.{lt-ltb, le-ltb}
 use Rattle.laws.proofs.Bools.{told}
 use Rattle.laws.proofs.Refusals.{passed, refused, none-applies}
@@ -24,4 +25,4 @@ pub returns : goal.returns
 unfolding with_set_of
 returns c =
     let args = c.args in
-    sym (passed _ _ _ _ (told c.own_wrong.ensures c.if-own_wrong.false) ∙ passed _ _ _ _ (le-ltb _ args.set.mask c.if-set-gt-ALL.false) ∙ none-applies _)
+    sym (passed _ _ _ _ (told c.own_wrong.ensures c.if-own_wrong.false) ∙ passed _ _ _ _ (le-ltb 511 args.set.mask (omega arith)) ∙ none-applies _)

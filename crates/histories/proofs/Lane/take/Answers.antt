@@ -3,6 +3,7 @@ use mathlib.Core.Path.{◌≡◌, sym, ap, ◌∙◌}
 use mathlib.Core.Bool.{true, false}
 use Prim.Native.Nat.{ℕ}
 use native.Mathlib.Nat.{min-le_right}
+use native.Mathlib.Omega.{arith}
 use Rattle.floats.specs.Finite.{finite}
 use Rattle.rules.specs.declared.Lines.{Lines}
 use Rattle.rules.specs.Finite.{finite_limits}
@@ -19,14 +20,14 @@ returns-then-set-gt-ALL c =
 pub returns-then-width-gt-OWN_WIDTHS : goal.returns-then-width-gt-OWN_WIDTHS
 returns-then-width-gt-OWN_WIDTHS c =
     let a = c.args in
-    c.refuse-then-width-gt-OWN_WIDTHS.ensures ∙ sym (mode-refused a.limits a.width a.set.mask a.self a.value c.if-set-gt-ALL.false c.if-width-gt-OWN_WIDTHS.true)
+    c.refuse-then-width-gt-OWN_WIDTHS.ensures ∙ sym (mode-refused a.limits a.width a.set.mask a.self a.value (omega arith) c.if-width-gt-OWN_WIDTHS.true)
 
 pub returns-then-not-sound : goal.returns-then-not-sound
 returns-then-not-sound c =
     let a = c.args in
     let unsound : finite_limits a.limits ≡ false = sym c.finite_limits-sound.ensures ∙ c.if-not-sound.true in
     c.refuse-then-not-sound.ensures
-    ∙ sym (limits-refused a.limits a.width a.set.mask a.self a.value c.if-set-gt-ALL.false c.if-width-gt-OWN_WIDTHS.false unsound)
+    ∙ sym (limits-refused a.limits a.width a.set.mask a.self a.value (omega arith) (omega arith) unsound)
 
 pub returns-then-not-is_finite : goal.returns-then-not-is_finite
 returns-then-not-is_finite c =
@@ -34,7 +35,7 @@ returns-then-not-is_finite c =
     let sound : finite_limits a.limits ≡ true = sym c.finite_limits-sound.ensures ∙ c.if-not-sound.false in
     let unsound : finite a.value ≡ false = sym c.is_finite.ensures ∙ c.if-not-is_finite.true in
     c.refuse-then-not-is_finite.ensures
-    ∙ sym (value-refused a.limits a.width a.set.mask a.self a.value c.if-set-gt-ALL.false c.if-width-gt-OWN_WIDTHS.false sound unsound)
+    ∙ sym (value-refused a.limits a.width a.set.mask a.self a.value (omega arith) (omega arith) sound unsound)
 
 pub marks-marks-requires : goal.marks-marks-requires
 unfolding after
@@ -48,4 +49,4 @@ returns c =
     let is : finite a.value ≡ true = sym c.is_finite.ensures ∙ c.if-not-is_finite.false in
     ap (λ (m : ℕ). (0, m, c.after-lane.result)) c.marks-marks.ensures
     ∙ ap (marked a.set.mask) (c.after-lane.ensures ∙ ap (λ (l : Lines). after l a.self a.value) c.lines_of.ensures)
-    ∙ sym (value_taken a.limits a.width a.set.mask a.self a.value c.if-set-gt-ALL.false c.if-width-gt-OWN_WIDTHS.false sound is)
+    ∙ sym (value_taken a.limits a.width a.set.mask a.self a.value (omega arith) (omega arith) sound is)

@@ -12,4 +12,4 @@ returns-then-bit-ge9 c =
 pub returns : goal.returns
 unfolding test_of tests
 returns c =
-    sym (found c.args.bit (omega (arith, c.if-bit-ge9.false)))
+    sym (found c.args.bit (omega arith))
