@@ -8,14 +8,13 @@ use lib.ListN.{get_or, get_or-map}
 use lib.Dec.{ltb}
 use lib.Bits.{bit_and, and_le_r}
 use borrow.Author.Tests.{ltb-true, ltb-false, lt-ltb, le-ltb}
+use Rattle.std.specs.Prelude.{Option, Some, None}
 use Rattle.laws.specs.Lists.{tabulate_from}
 use Rattle.laws.proofs.Lists.{get_d_tabulate}
 use Rattle.laws.proofs.Bits.{has-and, from_bits-lt, has-from_bits}
 use Rattle.laws.proofs.FirstBits.{bits-again}
 use Rattle.sets.specs.declared.Test.{Test}
 use Rattle.sets.specs.declared.Test.TheVariants.{BeyondLimits, NineOneSide, SixTrend, FourteenAlternating, TwoOfThreeBeyond2Sigma, FourOfFiveBeyond1Sigma, FifteenWithin1Sigma, EightBeyond1Sigma, EightOneSide}
-use Rattle.sets.specs.declared.Found.{Found}
-use Rattle.sets.specs.declared.Found.TheVariants as finding
 use Rattle.sets.specs.Sets.{bit_of, tests, test_of, test_at, has, set_of}
 
 -- ---- the list of the tests, row by row; all else goes for every test at once
@@ -51,20 +50,20 @@ pub test-of-bit : (t : Test) → test_of (bit_of t) ≡ t
 unfolding test_of
 test-of-bit t = sym (get_or-map (λ u. u) tests (bit_of t) BeyondLimits) ∙ at-bit (λ u. u) BeyondLimits t
 
-pub found : (bit : ℕ) → bit < 9 → test_at bit ≡ finding.Test (test_of bit)
+pub found : (bit : ℕ) → bit < 9 → test_at bit ≡ Some (test_of bit)
 unfolding test_at tests
-found bit h = ap (λ (b : Bool). cond b (finding.Test (test_of bit)) finding.Nothing) (lt-ltb bit 9 h)
+found bit h = ap (λ (b : Bool). cond b (Some (test_of bit)) None) (lt-ltb bit 9 h)
 
-pub not_found : (bit : ℕ) → 9 ≤ bit → test_at bit ≡ finding.Nothing
+pub not_found : (bit : ℕ) → 9 ≤ bit → test_at bit ≡ None
 unfolding test_at tests
-not_found bit h = ap (λ (b : Bool). cond b (finding.Test (test_of bit)) finding.Nothing) (le-ltb bit 9 h)
+not_found bit h = ap (λ (b : Bool). cond b (Some (test_of bit)) None) (le-ltb bit 9 h)
 
 -- whether there is one, and which
-abbrev told : Found → Bool × Test
-told (finding.Test t) = (true, t)
-told finding.Nothing = (false, BeyondLimits)
+abbrev told : Option Test → Bool × Test
+told (Some t) = (true, t)
+told None = (false, BeyondLimits)
 
-pub was-found : (bit : ℕ) (t : Test) → test_at bit ≡ finding.Test t → (bit < 9) × (test_of bit ≡ t)
+pub was-found : (bit : ℕ) (t : Test) → test_at bit ≡ Some t → (bit < 9) × (test_of bit ≡ t)
 was-found bit t e = by (ltb bit 9) refl
   where
     by : (b : Bool) → ltb bit 9 ≡ b → (bit < 9) × (test_of bit ≡ t)
@@ -73,7 +72,7 @@ was-found bit t e = by (ltb bit 9) refl
         (below, ap (λ f. (told f).1) (sym (found bit below) ∙ e))
     by false h = absurd (false≢true (ap (λ f. (told f).0) (sym (not_found bit (ltb-false bit 9 h)) ∙ e)))
 
-pub was-nothing : (bit : ℕ) → test_at bit ≡ finding.Nothing → 9 ≤ bit
+pub was-nothing : (bit : ℕ) → test_at bit ≡ None → 9 ≤ bit
 was-nothing bit e = by (ltb bit 9) refl
   where
     by : (b : Bool) → ltb bit 9 ≡ b → 9 ≤ bit

@@ -1,17 +1,13 @@
 -- The calls of a rule set: the number and the value that 01 has for each answer, and what each call answers (01, 'The nine tests',
 -- last paragraph; 'Numbers a call may give back', rows 4 and 13, and Order). Definitions only.
-use Rattle.std.specs.Prelude.{Bool, true, false, ◌&&◌, ◌||◌, not, List, [], ◌∷◌, map, ℕ, eqb}
+use Rattle.std.specs.Prelude.{Bool, true, false, ◌&&◌, ◌||◌, not, List, [], ◌∷◌, map, ℕ, Result, eqb}
 use Rattle.laws.specs.Bools.{count}
 use Rattle.laws.specs.Refusals.{first_of}
+use Rattle.numbers.specs.Numbers.{answered}
 use Rattle.sets.specs.declared.Test.{Test}
+use Rattle.sets.specs.declared.RuleSet.{RuleSet}
 use Rattle.sets.specs.declared.Refusal.{Refusal}
 use Rattle.sets.specs.declared.Refusal.TheVariants.{TooLarge, Unknown}
-use Rattle.sets.specs.declared.Chosen.{Chosen}
-use Rattle.sets.specs.declared.Chosen.TheVariants as choosing
-use Rattle.sets.specs.declared.Contained.{Contained}
-use Rattle.sets.specs.declared.Contained.TheVariants as containing
-use Rattle.sets.specs.declared.Counted.{Counted}
-use Rattle.sets.specs.declared.Counted.TheVariants as counting
 use Rattle.sets.specs.Sets.{bit_of, tests, too_large, has, set_of}
 
 -- ---- 01's number of each refusal, and the number and the value of each answer. A refusal's value is zero, and no for a yes or no.
@@ -20,17 +16,14 @@ abbrev pub number : Refusal → ℕ
 number TooLarge = 4
 number Unknown = 13
 
-abbrev pub chosen : Chosen → ℕ × ℕ
-chosen (choosing.Set s) = (0, s.mask)
-chosen (choosing.Refused why) = (number why, 0)
+abbrev pub chosen : Result RuleSet Refusal → ℕ × ℕ
+chosen = answered number (λ set. set.mask) 0
 
-abbrev pub contained : Contained → ℕ × Bool
-contained (containing.Is b) = (0, b)
-contained (containing.Refused why) = (number why, false)
+abbrev pub contained : Result Bool Refusal → ℕ × Bool
+contained = answered number (λ is. is) false
 
-abbrev pub counted : Counted → ℕ × ℕ
-counted (counting.Tests n) = (0, n)
-counted (counting.Refused why) = (number why, 0)
+abbrev pub counted : Result ℕ Refusal → ℕ × ℕ
+counted = answered number (λ tests. tests) 0
 
 -- ---- with, without, contains and len
 

@@ -1,10 +1,8 @@
 -- The nine tests by their bits, and rule sets (01, 'The nine tests'). Definitions only.
-use Rattle.std.specs.Prelude.{Bool, cond, List, [], ◌∷◌, map, ℕ, ltb, length, get_or}
+use Rattle.std.specs.Prelude.{Bool, cond, List, [], ◌∷◌, map, ℕ, Option, Some, None, ltb, length, get_or}
 use Rattle.laws.specs.Bits.{has_bit, from_bits}
 use Rattle.sets.specs.declared.Test.{Test}
 use Rattle.sets.specs.declared.Test.TheVariants.{BeyondLimits, NineOneSide, SixTrend, FourteenAlternating, TwoOfThreeBeyond2Sigma, FourOfFiveBeyond1Sigma, FifteenWithin1Sigma, EightBeyond1Sigma, EightOneSide}
-use Rattle.sets.specs.declared.Found.{Found}
-use Rattle.sets.specs.declared.Found.TheVariants as finding
 
 -- the first column of 01's table
 unfoldable pub bit_of : Test → ℕ
@@ -37,8 +35,8 @@ unfoldable pub test_of : ℕ → Test
 test_of bit = get_or tests bit BeyondLimits
 
 -- that test, or nothing where the number has none
-unfoldable pub test_at : ℕ → Found
-test_at bit = cond (ltb bit (length tests)) (finding.Test (test_of bit)) finding.Nothing
+unfoldable pub test_at : ℕ → Option Test
+test_at bit = cond (ltb bit (length tests)) (Some (test_of bit)) None
 
 -- "A rule set is a number 0 to 511": that of all nine tests is the largest
 abbrev pub largest : ℕ

@@ -1,12 +1,15 @@
 // The nine run tests by name, and the rule set: which of them are applied.
 #![tactic(auto)]
 
-ghost use Rattle.std.specs.Prelude.{◌≡◌, ◌^◌};
+ghost use Rattle.std.specs.Prelude.{◌≡◌, ◌^◌, ◌<◌, ◌≤◌, MatchResult};
+ghost use Rattle.sets.specs.declared.Refusal.TheVariants.{TooLarge};
 ghost use Rattle.sets.specs.Sets.{bit_of, test_at};
 ghost use Rattle.sets.specs.Calls.{number, chosen, contained, counted, with_test, without_test, has_test, how_many, same, set_named};
 
+use numbers::Numbered;
+
 /// A run test, in the order of 01's table.
-#[derive(Clone, Copy)]
+#[derive(Clone, Copy, Debug, PartialEq, Eq)]
 pub enum Test {
     BeyondLimits,
     NineOneSide,
@@ -21,54 +24,18 @@ pub enum Test {
 
 /// A rule set. Bit b of the mask is set where the set has the test of bit b. A mask over 511 is that of no set, and the calls
 /// refuse it (4).
-#[derive(Clone, Copy)]
+#[derive(Clone, Copy, Debug, PartialEq, Eq)]
 pub struct RuleSet {
     pub mask: u16,
 }
 
-/// What looking up a bit number finds.
-#[derive(Clone, Copy)]
-pub enum Found {
-    /// The test of that bit.
-    Test(Test),
-    /// No test has it.
-    Nothing,
-}
-
 /// Why a call is refused. The number is that of document 01, "Numbers a call may give back".
-#[derive(Clone, Copy)]
+#[derive(Clone, Copy, Debug, PartialEq, Eq)]
 pub enum Refusal {
     /// The mask is over 511 (4).
     TooLarge,
     /// No set has that name (13).
     Unknown,
-}
-
-/// What finding a set by its name, or changing one, answers.
-#[derive(Clone, Copy)]
-pub enum Chosen {
-    /// The set (0).
-    Set(RuleSet),
-    /// There is none.
-    Refused(Refusal),
-}
-
-/// Whether a set has a test.
-#[derive(Clone, Copy)]
-pub enum Contained {
-    /// It has it, or not (0).
-    Is(bool),
-    /// Nothing is said.
-    Refused(Refusal),
-}
-
-/// How many tests a set has.
-#[derive(Clone, Copy)]
-pub enum Counted {
-    /// So many (0).
-    Tests(u32),
-    /// Nothing is said.
-    Refused(Refusal),
 }
 
 // The tests in the order of 01's table.
@@ -107,71 +74,29 @@ impl Test {
 
     /// The test of a bit number.
     ///
-    /// Gives `Test` with it, or `Nothing` for a number over 8.
+    /// Gives `Some` with it, or `None` for a number over 8.
     ///
-    /// `Test::from_bit(8)` is `Found::Test(Test::EightOneSide)`; `Test::from_bit(9)` is `Found::Nothing`.
-    pub fn from_bit(bit: u64) -> Found
+    /// `Test::from_bit(8)` is `Some(Test::EightOneSide)`; `Test::from_bit(9)` is `None`.
+    pub fn from_bit(bit: u64) -> Option<Test>
         ensures { result ≡ test_at bit }
     {
         if 9 <= bit {
-            return Found::Nothing;
+            return None;
         }
-        Found::Test(TESTS[bit as usize])
+        Some(TESTS[bit as usize])
     }
 }
 
-impl Refusal {
+impl Numbered for Refusal {
+    ghost number = { number };
+
     /// 01's number of the refusal.
     ///
     /// `Refusal::Unknown.number()` is 13.
-    pub fn number(self) -> u8
-        ensures { result ≡ number self }
-    {
+    fn number(&self) -> u8 {
         match self {
             Refusal::TooLarge => 4,
             Refusal::Unknown => 13,
-        }
-    }
-}
-
-impl Chosen {
-    /// 01's number of the answer.
-    ///
-    /// `RuleSet::named(b"nelson").number()` is 0.
-    pub fn number(self) -> u8
-        ensures { result ≡ (chosen self).0 }
-    {
-        match self {
-            Chosen::Set(_) => 0,
-            Chosen::Refused(why) => why.number(),
-        }
-    }
-}
-
-impl Contained {
-    /// 01's number of the answer.
-    ///
-    /// `Contained::Is(false).number()` is 0.
-    pub fn number(self) -> u8
-        ensures { result ≡ (contained self).0 }
-    {
-        match self {
-            Contained::Is(_) => 0,
-            Contained::Refused(why) => why.number(),
-        }
-    }
-}
-
-impl Counted {
-    /// 01's number of the answer.
-    ///
-    /// `Counted::Refused(Refusal::TooLarge).number()` is 4.
-    pub fn number(self) -> u8
-        ensures { result ≡ (counted self).0 }
-    {
-        match self {
-            Counted::Tests(_) => 0,
-            Counted::Refused(why) => why.number(),
         }
     }
 }
@@ -245,86 +170,83 @@ impl RuleSet {
 
     /// The set that a name stands for: `shewhart`, `nelson` or `western_electric`, spelt exactly so.
     ///
-    /// Gives `Set` with that set. Refuses every other name, the empty one too (13, `Unknown`).
+    /// Gives `Ok` with that set. Refuses every other name, the empty one too (13, `Unknown`).
     ///
-    /// `RuleSet::named(b"nelson")` is `Chosen::Set(RuleSet::nelson())`; `RuleSet::named(b"Nelson")` is
-    /// `Chosen::Refused(Refusal::Unknown)`.
-    pub fn named(name: &[u8]) -> Chosen
+    /// `RuleSet::named(b"nelson")` is `Ok(RuleSet::nelson())`; `RuleSet::named(b"Nelson")` is
+    /// `Err(Refusal::Unknown)`.
+    pub fn named(name: &[u8]) -> Result<RuleSet, Refusal>
         ensures { chosen result ≡ set_named name.now }
     {
         if spelt(name, b"shewhart") {
-            return Chosen::Set(Self::shewhart());
+            return Ok(Self::shewhart());
         }
         if spelt(name, b"nelson") {
-            return Chosen::Set(Self::nelson());
+            return Ok(Self::nelson());
         }
         if spelt(name, b"western_electric") {
-            return Chosen::Set(Self::western_electric());
+            return Ok(Self::western_electric());
         }
-        Chosen::Refused(Refusal::Unknown)
+        Err(Refusal::Unknown)
+    }
+
+    // The mask, if it is that of a set.
+    fn checked(self) -> Result<u16, Refusal>
+        ensures { MatchResult result (λ mask. (mask ≡ self.mask) × (mask ≤ 511)) (λ why. (why ≡ TooLarge) × (511 < self.mask)) }
+    {
+        if Self::ALL < self.mask {
+            return Err(Refusal::TooLarge);
+        }
+        Ok(self.mask)
     }
 
     /// This set with the test `t` added. A set that has it already stays as it is.
     ///
-    /// Gives `Set` with the new set. Refuses a mask over 511 (4, `TooLarge`).
+    /// Gives `Ok` with the new set. Refuses a mask over 511 (4, `TooLarge`).
     ///
-    /// `RuleSet::none().with(Test::SixTrend)` is `Chosen::Set(RuleSet { mask: 4 })`.
-    pub fn with(self, t: Test) -> Chosen
+    /// `RuleSet::none().with(Test::SixTrend)` is `Ok(RuleSet { mask: 4 })`.
+    pub fn with(self, t: Test) -> Result<RuleSet, Refusal>
         ensures { chosen result ≡ with_test self.mask t }
     {
-        let mask = self.mask;
-        if Self::ALL < mask {
-            return Chosen::Refused(Refusal::TooLarge);
-        }
-        Chosen::Set(RuleSet {
+        let mask = self.checked()?;
+        Ok(RuleSet {
             mask: mask | mask_of(t),
         })
     }
 
     /// This set with the test `t` removed. A set that does not have it stays as it is.
     ///
-    /// Gives `Set` with the new set. Refuses a mask over 511 (4, `TooLarge`).
+    /// Gives `Ok` with the new set. Refuses a mask over 511 (4, `TooLarge`).
     ///
-    /// `RuleSet::nelson().without(Test::SixTrend)` is `Chosen::Set(RuleSet { mask: 251 })`.
-    pub fn without(self, t: Test) -> Chosen
+    /// `RuleSet::nelson().without(Test::SixTrend)` is `Ok(RuleSet { mask: 251 })`.
+    pub fn without(self, t: Test) -> Result<RuleSet, Refusal>
         ensures { chosen result ≡ without_test self.mask t }
     {
-        let mask = self.mask;
-        if Self::ALL < mask {
-            return Chosen::Refused(Refusal::TooLarge);
-        }
-        Chosen::Set(RuleSet {
+        let mask = self.checked()?;
+        Ok(RuleSet {
             mask: mask & !mask_of(t),
         })
     }
 
     /// Whether this set has the test `t`.
     ///
-    /// Gives `Is` with yes or no. Refuses a mask over 511 (4, `TooLarge`).
+    /// Gives `Ok` with yes or no. Refuses a mask over 511 (4, `TooLarge`).
     ///
-    /// `RuleSet::nelson().contains(Test::EightOneSide)` is `Contained::Is(false)`.
-    pub fn contains(self, t: Test) -> Contained
+    /// `RuleSet::nelson().contains(Test::EightOneSide)` is `Ok(false)`.
+    pub fn contains(self, t: Test) -> Result<bool, Refusal>
         ensures { contained result ≡ has_test self.mask t }
     {
-        let mask = self.mask;
-        if Self::ALL < mask {
-            return Contained::Refused(Refusal::TooLarge);
-        }
-        Contained::Is(mask & mask_of(t) != 0)
+        let mask = self.checked()?;
+        Ok(mask & mask_of(t) != 0)
     }
 
     /// How many tests this set has.
     ///
-    /// Gives `Tests` with their number. Refuses a mask over 511 (4, `TooLarge`).
+    /// Gives `Ok` with their number. Refuses a mask over 511 (4, `TooLarge`).
     ///
-    /// `RuleSet::western_electric().len()` is `Counted::Tests(4)`.
-    pub fn len(self) -> Counted
+    /// `RuleSet::western_electric().len()` is `Ok(4)`.
+    pub fn len(self) -> Result<u32, Refusal>
         ensures { counted result ≡ how_many self.mask }
     {
-        let mask = self.mask;
-        if Self::ALL < mask {
-            return Counted::Refused(Refusal::TooLarge);
-        }
-        Counted::Tests(u16::count_ones(mask))
+        Ok(u16::count_ones(self.checked()?))
     }
 }

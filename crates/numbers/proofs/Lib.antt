@@ -1,0 +1,2 @@
+-- The law of numbered answers: number and value fix the answer.
+pub mod Numbers

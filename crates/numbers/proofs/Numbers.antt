@@ -1,0 +1,18 @@
+-- Two answers with one number and one value are one answer: so a promise on the number and the value fixes the answer. Assumes nothing.
+use mathlib.Core.Path.{◌≡◌, sym, ap}
+use Prim.Native.Nat.{ℕ}
+use Rattle.std.specs.Prelude.{Result, Ok, Err}
+use Rattle.numbers.specs.Numbers.{numbered, answered}
+
+-- The numbers of refusals are not 0 and tell them apart.
+pub record Telling {E : Type 0} (number : E → ℕ) : Type 0 where
+  pub not_done : (why : E) → 0 ≡ number why → ⊥
+  pub one : (a b : E) → number a ≡ number b → a ≡ b
+
+module _ {A E : Type 0} {number : E → ℕ} (tells : Telling number) where
+  module _ {B : Type 0} (value : A → B) (nothing : B) (value-one : (a b : A) → value a ≡ value b → a ≡ b) where
+    pub answered-one : (x y : Result A E) → answered number value nothing x ≡ answered number value nothing y → x ≡ y
+    answered-one (Ok a) (Ok b) e = ap (λ (v : A). Ok v) (value-one a b (ap (λ p. p.1) e))
+    answered-one (Ok a) (Err y) e = absurd (tells.not_done y (ap (λ p. p.0) e))
+    answered-one (Err x) (Ok b) e = absurd (tells.not_done x (ap (λ p. p.0) (sym e)))
+    answered-one (Err x) (Err y) e = ap (λ (w : E). Err w) (tells.one x y (ap (λ p. p.0) e))
