@@ -9,8 +9,6 @@ use Rattle.stops.specs.Stops.{cut_at, stops_wrong, main_points}
 use Rattle.sets.specs.declared.Test.{Test}
 use Rattle.sets.specs.Sets.{has, set_of, too_large}
 use Rattle.rules.specs.declared.Lines.{Lines}
-use Rattle.rules.specs.declared.Marked.{Marked}
-use Rattle.rules.specs.declared.Marked.TheVariants.{Done, Refused}
 use Rattle.rules.specs.declared.Refusal.{Refusal}
 use Rattle.rules.specs.declared.Refusal.TheVariants.{TooMany, Stops, SetTooLarge, WidthMode, NotFinite, TooShort}
 use Rattle.rules.specs.Terms.{Terms}
