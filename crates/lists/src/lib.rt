@@ -16,7 +16,7 @@ ghost use Rattle.lists.specs.Reading.{bytes_from, numbers_from, opening_of, clos
 pub use groups::Read;
 pub use input::read_input;
 pub use ours::{Bytes, Listed, all_are, bits};
-pub use outcome::{Difference, Outcome, Parting, compare, hold};
+pub use outcome::{Difference, Outcome, Parting, compare, stored};
 pub use row::{Entry, read_row};
 pub use run::{Case, replay};
 

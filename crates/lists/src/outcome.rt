@@ -62,14 +62,12 @@ pub fn compare(ours: &[u8], right: &[u8]) -> Outcome
     Ok(())
 }
 
-/// Holds our bytes to those that stand in a list from one place to another.
-pub fn hold(ours: &[u8], list: &[u8], from: usize, to: usize) -> Outcome
-    ensures { OnlyIf (ours.now ≡ stretch from to list.now) result }
+/// What stands in a list from one place to another, as far as the list goes.
+pub fn stored(list: &[u8], from: usize, to: usize) -> &[u8]
+    ensures { result.now ≡ stretch from to list.now }
 {
-    match list.get(from..to) {
-        Some(right) => compare(ours, right),
-        None => Err(Difference::Length(ours.len())),
-    }
+    let end = to.min(list.len());
+    &list[from.min(end)..end]
 }
 
 /// Whether a case does not come to what it ought to; writes its line where that is so. Fails only where that cannot be written.
