@@ -10,6 +10,13 @@ pub record Telling {E : Type 0} (number : E → ℕ) : Type 0 where
   pub one : (a b : E) → number a ≡ number b → a ≡ b
 
 module _ {A E : Type 0} {number : E → ℕ} (tells : Telling number) where
+  -- answers that have but one value where they are done
+  pub numbered-one : ((a b : A) → a ≡ b) → (x y : Result A E) → numbered number x ≡ numbered number y → x ≡ y
+  numbered-one one (Ok a) (Ok b) e = ap (λ (v : A). Ok v) (one a b)
+  numbered-one one (Ok a) (Err y) e = absurd (tells.not_done y e)
+  numbered-one one (Err x) (Ok b) e = absurd (tells.not_done x (sym e))
+  numbered-one one (Err x) (Err y) e = ap (λ (w : E). Err w) (tells.one x y e)
+
   module _ {B : Type 0} (value : A → B) (nothing : B) (value-one : (a b : A) → value a ≡ value b → a ≡ b) where
     pub answered-one : (x y : Result A E) → answered number value nothing x ≡ answered number value nothing y → x ≡ y
     answered-one (Ok a) (Ok b) e = ap (λ (v : A). Ok v) (value-one a b (ap (λ p. p.1) e))
