@@ -1,4 +1,4 @@
 -- Laws of the arithmetic.
-mod Folds
+mod Extremes
 mod Signs
 pub mod Means

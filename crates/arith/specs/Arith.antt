@@ -1,11 +1,10 @@
 -- The charts' arithmetic, each operation rounded to an f64 (01, 'The charts', the first four points of its list). Definitions only.
-use Rattle.std.specs.Prelude.{◌-◌, false, cond, List, length, drop, slice_index_or, Float}
+use Rattle.std.specs.Prelude.{◌-◌, false, cond, List, length, drop, slice_index_or, Float, Result, Ok, Err}
 use mathlib.Core.List.{foldl}
 use Rattle.std.specs.Float.{nan, inf, fin, binary64}
 use Rattle.std.specs.Float.Ieee.{add, sub, mul, div, lt}
 use Rattle.floats.specs.Values.{plus_zero, whole}
-use Rattle.root.specs.declared.Rooted.{Rooted}
-use Rattle.root.specs.declared.Rooted.TheVariants.{Root, Refused}
+use Rattle.root.specs.declared.NoRoot.{NoRoot}
 use Rattle.root.specs.Root.{root_of}
 
 -- ---- "Mean: sum from +0.0, left to right, divided by the count."
@@ -42,9 +41,9 @@ abbrev pub squares_of : Float → List Float → Float
 squares_of mean l = foldl (square_added mean) plus_zero l
 
 -- the root of what is not finite is refused: it is then a NaN, so that the point is not finite (7)
-unfoldable pub or_nan : Rooted → Float
-or_nan (Root r) = r
-or_nan Refused = nan
+unfoldable pub or_nan : Result Float NoRoot → Float
+or_nan (Ok r) = r
+or_nan (Err why) = nan
 
 unfoldable pub deviation_of : List Float → Float
 deviation_of l = or_nan (root_of (div binary64 (squares_of (mean_of l) l) (whole (length l - 1))))

@@ -11,15 +11,15 @@ ghost use Rattle.evaluating.specs.Series.{series_of};
 ghost use Rattle.evaluating.specs.Evaluating.{evaluated, positions_wrong, no_room, series_marks, number_of, evaluate_of};
 ghost use Rattle.evaluating.specs.Steps.{ahead};
 
-use super::limits::Measured;
-use super::{Evaluated, Evaluation, lent, limits, marks, series};
+use super::series::Series;
+use super::{ChartLimits, Evaluation, limits, marks, series};
 use charts::{Chart, INDIVIDUALS, Refusal};
 use sets::RuleSet;
 
 // Marks both series; `moving` says whether that of the dispersion is one of moving ranges.
 fn mark_both(
     set: RuleSet,
-    w: Measured,
+    w: ChartLimits,
     width: u64,
     stops: &[usize],
     moving: bool,
@@ -41,15 +41,20 @@ fn mark_both(
     ensures dispersion_marks { dispersion_marks.new
         ≡ at_front (marks_of (under w.dispersion width stops.now moving) set.mask dispersion.now) dispersion_marks.old }
 {
-    let a = w.main;
-    let b = w.dispersion;
-    let n = marks::mark(main, stops, false, a, width, set, main_marks);
-    let k = marks::mark(dispersion, stops, moving, b, width, set, dispersion_marks);
-    let marks = n + k;
+    let n = marks::mark(main, stops, false, w.main, width, set, main_marks);
+    let k = marks::mark(
+        dispersion,
+        stops,
+        moving,
+        w.dispersion,
+        width,
+        set,
+        dispersion_marks,
+    );
     Evaluation {
-        main: a,
-        dispersion: b,
-        marks: marks,
+        main: w.main,
+        dispersion: w.dispersion,
+        marks: n + k,
     }
 }
 
@@ -63,7 +68,7 @@ pub fn evaluate(
     dispersion: &mut [f64],
     main_marks: &mut [u16],
     dispersion_marks: &mut [u16],
-) -> Evaluated
+) -> Result<Evaluation, Refusal>
     requires { first_of (ahead (asked c values.now) (positions_wrong c positions.now) (width_wrong width)
         (no_room c (length main.old) (length dispersion.old) (length main_marks.old) (length dispersion_marks.old))) 0 ≡ 0 }
     ensures answer { evaluated result ≡ evaluate_of (in_mode (interrupted (asked c values.now) positions.now) width)
@@ -78,25 +83,23 @@ pub fn evaluate(
     ensures dispersion_marks { dispersion_marks.new
         ≡ lent_after (evaluated result).number 0 (series_marks (in_mode (interrupted (asked c values.now) positions.now) width) 1) dispersion_marks.old }
 {
-    let n = series::points_in(c, 0);
-    let k = series::points_in(c, 1);
-    let w = limits::measure(c, values, main, dispersion);
-    if !w.sound {
-        lent::zero_all(main, dispersion, main_marks, dispersion_marks);
-        return Evaluated::Refused(Refusal::Overflow);
+    let n = series::points_in(c, Series::Main);
+    let k = series::points_in(c, Series::Dispersion);
+    match limits::measure(c, values, main, dispersion) {
+        Err(why) => {
+            super::clear(main, dispersion, main_marks, dispersion_marks);
+            Err(why)
+        }
+        Ok(w) => Ok(mark_both(
+            c.set,
+            w,
+            width,
+            &positions[0..c.stops],
+            c.kind == INDIVIDUALS,
+            &main[0..n],
+            &dispersion[0..k],
+            main_marks,
+            dispersion_marks,
+        )),
     }
-    let set = c.set;
-    let counted = c.stops;
-    let moving = c.kind == INDIVIDUALS;
-    Evaluated::Done(mark_both(
-        set,
-        w,
-        width,
-        &positions[0..counted],
-        moving,
-        &main[0..n],
-        &dispersion[0..k],
-        main_marks,
-        dispersion_marks,
-    ))
 }

@@ -12,15 +12,9 @@ use sets::RuleSet;
 // How many bits are set in all.
 fn count(marks: &[u16]) -> usize
     requires { length marks.now ≤ most }
-    ensures { (result ≡ ones_in marks.now) × (result ≤ 65536) }
+    ensures { result ≡ ones_in marks.now }
 {
-    let mut n = 0;
-    let mut i = 0;
-    while i < marks.len() {
-        n += u16::count_ones(marks[i]) as usize;
-        i += 1;
-    }
-    n
+    marks.iter().map(|m| u16::count_ones(*m) as usize).sum()
 }
 
 // Marks the points of a series that marking does not refuse, and gives the number of marks.
@@ -34,7 +28,8 @@ pub fn mark(
     marks: &mut [u16],
 ) -> usize
     requires { answer_of (under limits width stops.now moving) set.mask points.now (length marks.old) ≡ 0 }
-    ensures number { (result ≡ number_of (marks_of (under limits width stops.now moving) set.mask points.now)) × (result ≤ 65536) }
+    ensures number { result ≡ number_of (marks_of (under limits width stops.now moving) set.mask points.now) }
+    ensures few { result ≤ 65536 }
     ensures marks { marks.new ≡ at_front (marks_of (under limits width stops.now moving) set.mask points.now) marks.old }
 {
     let n = points.len();

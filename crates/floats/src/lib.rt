@@ -7,7 +7,7 @@ ghost use Rattle.std.specs.Float.Ieee.{of_bits};
 ghost use Rattle.floats.specs.Finite.{finite, all_finite};
 
 /// The largest finite f64.
-pub const LARGEST: f64 = 1.7976931348623157e308;
+pub const LARGEST: f64 = f64::MAX;
 
 /// The f64 of a pattern of 64 bits. Each pattern of a NaN gives a NaN; which one is not said.
 ///
@@ -18,7 +18,7 @@ pub fn of_bits(pattern: u64) -> f64
     ensures { result ≡ of_bits binary64 pattern }
 {
     if pattern & 0x7fff_ffff_ffff_ffff > 0x7ff0_0000_0000_0000 {
-        return 0.0 / 0.0;
+        return f64::NAN;
     }
     f64::from_bits(pattern)
 }
@@ -44,11 +44,5 @@ pub fn all_finite(values: &[f64]) -> bool
     ensures { result ≡ all_finite values.now }
 {
     // Going on behind a value that is not lets the loop take several at a time.
-    let mut all = true;
-    let mut i = 0;
-    while i < values.len() {
-        all = all & is_finite(values[i]);
-        i += 1;
-    }
-    all
+    values.iter().fold(true, |all, v| all & is_finite(*v))
 }

@@ -7,6 +7,7 @@ pub mod Digits
 pub mod Lists
 pub mod Judged
 pub mod Filling
+pub mod Folding
 pub mod Lending
 pub mod Rooms
 pub mod OneValue

@@ -1,17 +1,17 @@
 -- The function `root_of` gives the answer that is allowed, and the only one. Assumes nothing.
-use Rattle.std.proofs.Common.{◌≡◌, ℕ, zero, suc, ◌+◌, ◌-◌, ◌*◌, ◌/◌, ◌^◌, ◌<◌, ◌≤◌, Bool, true, false, cond, not, T, leb, sym, refl, ap, ◌∙◌, le_trans, mul-le-mul_right, le_antisymm, pow-suc, mul-div_cancel, arith, leb→le, pow-add, shl_lt}
+use Rattle.std.proofs.Common.{◌≡◌, ℕ, zero, suc, ◌+◌, ◌-◌, ◌*◌, ◌/◌, ◌^◌, ◌<◌, ◌≤◌, Bool, true, false, cond, not, T, leb, refl, ap, ◌∙◌, le_trans, mul-le-mul_right, le_antisymm, pow-suc, mul-div_cancel, arith, leb→le, pow-add, shl_lt}
 use lib.Dec.{nleb→lt}
 use lib.Ieee.{Float, nan, inf, fin, binary64, odd, size, fits}
 use lib.Ieee.Digits.{size-le}
-use Rattle.root.specs.declared.Rooted.{Rooted}
-use Rattle.root.specs.declared.Rooted.TheVariants.{Root, Refused}
-use Rattle.root.specs.Root.{scaled, IsRoot, Allowed, floor_root, root_at, root_of, Answer, numbered}
+use Rattle.std.specs.Prelude.{Result}
+use Rattle.numbers.proofs.Numbers.{Telling, answered-one}
+use Rattle.root.specs.declared.NoRoot.{NoRoot}
+use Rattle.root.specs.Root.{scaled, IsRoot, Allowed, floor_root, root_at, root_of, number, numbered}
 use Rattle.root.specs.Steps.{Form}
 use Rattle.root.proofs.Squares.{Floor, square-next, square-twice, square-odd, four-positive}
 use Rattle.root.proofs.Nearest.{rounded}
 use Rattle.root.proofs.Unique.{allowed-unique}
 use Rattle.root.proofs.Form.{top_digit, form_of}
-use Rattle.root.proofs.Answers.{not-refused}
 use Rattle.root.proofs.Halving.{lead, half, lead-most, halved, found}
 
 -- ---- `floor_root` is the whole part of the root
@@ -59,11 +59,11 @@ allowed-root_of (fin false (suc m) e) t =
     (root_at (scaled (fin false (suc m) e)), refl, root_at-root (fin false (suc m) e) (form_of false m e t).2)
 
 -- two answers with 01's same number and value are the same
-numbered-one : (a b : Rooted) → numbered a ≡ numbered b → a ≡ b
-numbered-one (Root r) (Root q) e = ap Root (ap (λ (p : Answer). p.1) e)
-numbered-one (Root r) Refused e = absurd (not-refused r e)
-numbered-one Refused (Root q) e = absurd (not-refused q (sym e))
-numbered-one Refused Refused e = refl
+tells : Telling number
+tells = record { not_done = λ why e. omega arith; one = λ a b e. refl }
 
-pub root_of-only : (x : Float) (a : Rooted) → T (fits binary64 x) → Allowed x (numbered a) → a ≡ root_of x
+pub numbered-one : (a b : Result Float NoRoot) → numbered a ≡ numbered b → a ≡ b
+numbered-one = answered-one tells _ _ (λ r q e. e)
+
+pub root_of-only : (x : Float) (a : Result Float NoRoot) → T (fits binary64 x) → Allowed x (numbered a) → a ≡ root_of x
 root_of-only x a t p = numbered-one a (root_of x) (allowed-unique x (numbered a) (numbered (root_of x)) p (allowed-root_of x t))

@@ -1,12 +1,12 @@
 -- The root of an f64, by document 01: "The charts" says which f64 the root is, "Numbers a call may give back" what is refused.
 -- What has to be believed is `Allowed`. That it leaves one answer, which the function `root_of` computes, is proved (`allowed-unique`,
 -- `allowed-root_of`, `root_of-only`). Definitions only.
-use Rattle.std.specs.Prelude.{◌≡◌, ℕ, zero, suc, ◌+◌, ◌-◌, ◌*◌, ◌/◌, ◌^◌, ◌<◌, ◌≤◌, true, false, cond, T, pos, ◌==◌, nat_le, Float}
+use Rattle.std.specs.Prelude.{◌≡◌, ℕ, zero, suc, ◌+◌, ◌-◌, ◌*◌, ◌/◌, ◌^◌, ◌<◌, ◌≤◌, true, false, cond, T, pos, ◌==◌, nat_le, Float, Result, Ok, Err}
 use Rattle.std.specs.Float.{nan, inf, fin, binary64}
 use Rattle.std.specs.Float.Ieee.{fits, up, down, odd, size}
 use Rattle.std.specs.Float.Ieee.Exact.{HasValue}
-use Rattle.root.specs.declared.Rooted.{Rooted}
-use Rattle.root.specs.declared.Rooted.TheVariants.{Root, Refused}
+use Rattle.numbers.specs.Numbers.{answered}
+use Rattle.root.specs.declared.NoRoot.{NoRoot}
 
 -- ---- "The root must be the nearest f64"
 
@@ -51,13 +51,16 @@ Answer = ℕ × Float
 abbrev pub done : Float → Answer
 done r = (0, r)
 
--- "3: a value or limit is not finite; for the root also x < 0", and "a refusal gives back .. zero for numbers": +0.0
+-- "3: a value or limit is not finite; for the root also x < 0"
+abbrev pub number : NoRoot → ℕ
+number why = 3
+
+-- "a refusal gives back .. zero for numbers": +0.0
 abbrev pub refusal : Answer
 refusal = (3, fin false 0 (pos 0))
 
-abbrev pub numbered : Rooted → Answer
-numbered (Root r) = done r
-numbered Refused = refusal
+abbrev pub numbered : Result Float NoRoot → Answer
+numbered = answered number (λ r. r) (fin false 0 (pos 0))
 
 -- what may be answered at x: 3 "exactly then", "the root of ±0 is the same zero", and the nearest f64
 unfoldable pub Allowed : Float → Answer → Type 0
@@ -79,10 +82,13 @@ unfoldable pub root_at : ℕ → Float
 unfolding floor_root odd size
 root_at n = let k = (size n - 109) / 2 in odd 53 false ((floor_root 54 (n / 4 ^ (k + 1)) + 1) / 2) k 589
 
-unfoldable pub root_of : Float → Rooted
+abbrev pub no_root : Result Float NoRoot
+no_root = Err (record {})
+
+unfoldable pub root_of : Float → Result Float NoRoot
 unfolding root_at scaled
-root_of nan = Refused
-root_of (inf s) = Refused
-root_of (fin s zero e) = Root (fin s zero e)
-root_of (fin true (suc m) e) = Refused
-root_of (fin false (suc m) e) = Root (root_at (scaled (fin false (suc m) e)))
+root_of nan = no_root
+root_of (inf s) = no_root
+root_of (fin s zero e) = Ok (fin s zero e)
+root_of (fin true (suc m) e) = no_root
+root_of (fin false (suc m) e) = Ok (root_at (scaled (fin false (suc m) e)))

@@ -2,29 +2,21 @@
 #![tactic(auto)]
 
 ghost use Rattle.std.specs.Prelude.{◌≡◌, ◌+◌, ◌*◌, ◌^◌, ◌<◌, ◌≤◌};
-ghost use Rattle.root.specs.Root.{Allowed, numbered, root_of};
+ghost use Rattle.root.specs.Root.{number, Allowed, numbered, root_of};
 ghost use Rattle.root.specs.Steps.{infinity, Places, RootBits};
 
-/// What [`root`] answers.
-#[derive(Clone, Copy)]
-pub enum Rooted {
-    /// The nearest f64 to the root: number 0 of document 01, "Numbers a call may give back".
-    Root(f64),
-    /// The number is not finite, or it is below 0: number 3 of that list.
-    Refused,
-}
+use numbers::Numbered;
 
-impl Rooted {
-    /// 01's number of the answer.
-    ///
-    /// `root::root(-1.0).number()` is 3.
-    pub fn number(self) -> u8
-        ensures { result ≡ (numbered self).0 }
-    {
-        match self {
-            Rooted::Root(_) => 0,
-            Rooted::Refused => 3,
-        }
+/// Why [`root`] gives no root: the number is not finite, or it is below 0.
+#[derive(Clone, Copy, Debug, PartialEq, Eq)]
+pub struct NoRoot;
+
+impl Numbered for NoRoot {
+    ghost number = { number };
+
+    /// 3 of document 01, "Numbers a call may give back".
+    fn number(&self) -> u8 {
+        3
     }
 }
 
@@ -53,7 +45,7 @@ fn digits(a: u64) -> u64
     let mut unit: u64 = 0x10_0000_0000_0000;
     'digits: while rem != 0 {
         // every bit is set where the digit is 1
-        let taken = std::num::wrapping_sub_u64((rem < trial) as u64, 1);
+        let taken = u64::from(rem < trial).wrapping_sub(1);
         rem = (rem << 1) - ((trial << 1) & taken);
         trial = trial - (unit >> 1) + ((unit << 1) & taken);
         unit = unit >> 1;
@@ -82,7 +74,7 @@ fn place(b: u64) -> Placed
         let up = u64::leading_zeros(t) - 11;
         Placed {
             s: t << up,
-            p: 53 - up as u64,
+            p: 53 - u64::from(up),
         }
     } else {
         Placed {
@@ -116,34 +108,34 @@ fn root_bits(b: u64) -> u64
 ///
 /// # Refusal
 ///
-/// [`Rooted::Refused`], number 3 of document 01, where `x` is a NaN, an infinity or below zero.
+/// [`NoRoot`], number 3 of document 01, where `x` is a NaN, an infinity or below zero.
 ///
 /// # Example
 ///
 /// ```
 /// match root::root(2.0) {
-///     Rooted::Root(r) => r,    // 1.4142135623730951
-///     Rooted::Refused => 0.0,
+///     Ok(r) => r,    // 1.4142135623730951
+///     Err(NoRoot) => 0.0,
 /// }
 /// ```
-pub fn root(x: f64) -> Rooted
+pub fn root(x: f64) -> Result<f64, NoRoot>
     ensures nearest { Allowed x (numbered result) }
     ensures is { result ≡ root_of x }
 {
     // only a NaN differs from itself
     if x != x {
-        return Rooted::Refused;
+        return Err(NoRoot);
     }
     let b = f64::to_bits(x);
     if b == 0 {
-        return Rooted::Root(x);
+        return Ok(x);
     }
     if b == MINUS_ZERO {
-        return Rooted::Root(x);
+        return Ok(x);
     }
     if b < INFINITY {
-        Rooted::Root(f64::from_bits(root_bits(b)))
+        Ok(f64::from_bits(root_bits(b)))
     } else {
-        Rooted::Refused
+        Err(NoRoot)
     }
 }

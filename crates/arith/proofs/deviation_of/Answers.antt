@@ -5,4 +5,4 @@ use Rattle.arith.proofs.deviation_of.Goals as goal
 pub returns : goal.returns
 unfolding deviation_of
 returns c =
-    rw (c.or_nan.ensures, c.root.ensures.is, c.squares.ensures, c.mean_of.ensures, c.nearest_u64_to_f64.ensures, c.less_one-n.ensures)
+    rw (c.or_nan.ensures, c.root.ensures.is, c.squares.ensures, c.mean_of.ensures, c.nearest_usize_to_f64.ensures, c.saturating_sub-n.ensures)

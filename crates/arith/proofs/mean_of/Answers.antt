@@ -7,4 +7,4 @@ use Rattle.arith.proofs.mean_of.Goals as goal
 pub returns : goal.returns
 unfolding mean_of
 returns c =
-    ap₂ (div binary64) c.sum_of.ensures c.nearest_u64_to_f64.ensures
+    ap₂ (div binary64) c.sum_of.ensures c.nearest_usize_to_f64.ensures

@@ -1,31 +1,25 @@
--- `arith::range_of` meets its contract: the largest and the smallest are two folds in one loop. Assumes nothing.
-use Rattle.std.proofs.Common.{ap₂, arith}
-use lib.Ieee.{nan, sub, binary64}
-use Rattle.arith.specs.Arith.{larger, smaller, range_of}
-use Rattle.arith.proofs.Folds.{fold_more, fold_done}
+-- `arith::range_of` meets its contract: the largest and the smallest are found in one fold. Assumes nothing.
+use Rattle.std.proofs.Common.{◌≡◌, rules, length, ap, ◌∙◌, sym, refl, arith, List, [], ◌∷◌}
+use lib.Ieee.{Float, nan, sub, binary64, of_bits}
+use Rattle.laws.proofs.Folding.{folded}
+use Rattle.arith.specs.Arith.{range_of}
+use Rattle.arith.proofs.Extremes.{wider, wider-fold}
 use Rattle.arith.proofs.range_of.Goals as goal
 
-pub loop-i-init : goal.loop-i-init
-loop-i-init c =
-    (rw c.first-hi.ensures, rw c.first-hi.ensures)
+none : (l : List Float) → length l ≡ 0 → nan ≡ range_of l
+unfolding range_of sub
+none [] e = refl
+none (x ∷ l) e = absurd (omega arith)
 
-pub overflow_add-i : goal.overflow_add-i
-overflow_add-i c =
-    omega arith
-
-pub loop-i-smaller : goal.loop-i-smaller
-loop-i-smaller c =
-    omega arith
-
-pub loop-i-preserved : goal.loop-i-preserved
-loop-i-preserved c = (
-  rw c.larger_of-hi.ensures (fold_more larger nan _ _ _ c.loop-i-test.true c.loop-i.invariant.0),
-  rw c.smaller_of-lo.ensures (fold_more smaller nan _ _ _ c.loop-i-test.true c.loop-i.invariant.1),
-)
+pub returns-in_default : goal.returns-in_default
+unfolding of_bits
+returns-in_default c =
+    none c.args.s.now (search rules)
 
 pub returns : goal.returns
 unfolding range_of
 returns c =
-    ap₂ (sub binary64)
-    (fold_done larger nan _ _ _ c.loop-i-test.false c.loop-i.invariant.0)
-    (fold_done smaller nan _ _ _ c.loop-i-test.false c.loop-i.invariant.1)
+    let rest = c.in-Some.rest.now in
+    ap (λ (p : Float × Float). sub binary64 p.0 p.1)
+    (folded wider _ _ (λ p v q f' k. search rules) c.iter.result rest c.iter.ensures.rest _ _ c.fold-hi.ensures.ran ∙ wider-fold _ _ rest)
+    ∙ ap range_of (sym c.in-Some.ensures.cases.0)

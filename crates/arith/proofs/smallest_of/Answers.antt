@@ -1,26 +1,18 @@
--- `arith::smallest_of` meets its contract: what is left to look at, from the smallest so far, gives the smallest of all. Assumes nothing.
-use Rattle.std.proofs.Common.{arith}
-use lib.Ieee.{nan}
+-- `arith::smallest_of` meets its contract: the first value is replaced by turns by the smaller of two. Assumes nothing.
+use Rattle.std.proofs.Common.{rules, ap, ◌∙◌}
+use Rattle.std.specs.Option.{unwrap_or}
+use Rattle.std.proofs.lemmas.Iterator.{YieldsList-from_slice}
+use Rattle.std.proofs.lemmas.Iterator.Consumers.{YieldsList-from_copied}
+use lib.Ieee.{nan, of_bits}
+use Rattle.laws.proofs.Folding.{reduced}
 use Rattle.arith.specs.Arith.{smaller}
-use Rattle.arith.proofs.Folds.{fold_more, fold_done}
+use Rattle.arith.proofs.Extremes.{from-first}
 use Rattle.arith.proofs.smallest_of.Goals as goal
 
-pub loop-i-init : goal.loop-i-init
-loop-i-init c =
-    rw c.first-t.ensures
-
-pub overflow_add-i : goal.overflow_add-i
-overflow_add-i c =
-    omega arith
-
-pub loop-i-smaller : goal.loop-i-smaller
-loop-i-smaller c =
-    omega arith
-
-pub loop-i-preserved : goal.loop-i-preserved
-loop-i-preserved c =
-    rw c.smaller_of-t.ensures (fold_more smaller nan _ _ _ c.loop-i-test.true c.loop-i.invariant)
-
 pub returns : goal.returns
+unfolding of_bits
 returns c =
-    fold_done smaller nan _ _ _ c.loop-i-test.false c.loop-i.invariant
+    let s = c.args.s.now in
+    c.unwrap_or.ensures
+    ∙ ap (λ o. unwrap_or o nan) (reduced smaller _ _ (λ t v b f' k. search rules) c.copied.result (YieldsList-from_copied (YieldsList-from_slice s cc)) _ c.reduce.ensures.ran)
+    ∙ from-first smaller s

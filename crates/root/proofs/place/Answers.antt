@@ -25,17 +25,13 @@ pub overflow_shl-result : goal.overflow_shl-result
 overflow_shl-result c =
     omega (arith, zeros c)
 
-pub overflow_cast-result-then-field-eq0 : goal.overflow_cast-result-then-field-eq0
-overflow_cast-result-then-field-eq0 c =
-    omega (arith, zeros c)
-
 pub overflow_sub-result : goal.overflow_sub-result
 overflow_sub-result c =
-    omega (arith, zeros c)
+    omega (arith, zeros (goal.at.overflow_sub-result c).Then-field-eq0)
 
 pub returns-then-field-eq0 : goal.returns-then-field-eq0
 returns-then-field-eq0 c =
-    places-subnormal c.args.b c.requires.0 (low c)
+    rw c.from.ensures (places-subnormal c.args.b c.requires.0 (low (goal.at.returns-then-field-eq0 c).Then-field-eq0))
 
 pub returns-else-field-eq0 : goal.returns-else-field-eq0
 returns-else-field-eq0 c =

@@ -3,9 +3,9 @@
 use Rattle.std.proofs.Common.{◌≡◌, ℕ, T, sym, subst, arith}
 use lib.Ieee.{Float, binary64, fits, of_bits, to_bits}
 use lib.Ieee.Bits.{of_bits-to_bits, to_bits-lt}
-use Rattle.root.specs.declared.Rooted.{Rooted}
-use Rattle.root.specs.declared.Rooted.TheVariants.{Root, Refused}
-use Rattle.root.specs.Root.{Allowed, done, numbered, root_of}
+use Rattle.std.specs.Prelude.{Result, Ok}
+use Rattle.root.specs.declared.NoRoot.{NoRoot}
+use Rattle.root.specs.Root.{Allowed, done, numbered, no_root, root_of}
 use Rattle.root.proofs.Function.{root_of-only}
 use Rattle.root.proofs.Patterns.{above_zero, not-nan}
 use Rattle.root.proofs.Answers.{allowed-root, allowed-zero, allowed-minus-zero, refused-from, refused-nan}
@@ -19,26 +19,26 @@ held c =
     subst T (sym c.well_formed.0.1) tt
 
 -- both clauses of the contract
-abbrev Answers : (x : Float) (a : Rooted) → Type 0
+abbrev Answers : (x : Float) (a : Result Float NoRoot) → Type 0
 Answers x a = Allowed x (numbered a) × (a ≡ root_of x)
 
-both : (x : Float) (a : Rooted) → T (fits binary64 x) → Allowed x (numbered a) → Answers x a
+both : (x : Float) (a : Result Float NoRoot) → T (fits binary64 x) → Allowed x (numbered a) → Answers x a
 both x a t p = (p, root_of-only x a t p)
 
 -- for an x that is known by its bits
-by_bits : (x : Float) (a : Rooted) → T (fits binary64 x) → Allowed (of_bits binary64 (to_bits binary64 x)) (numbered a) → Answers x a
+by_bits : (x : Float) (a : Result Float NoRoot) → T (fits binary64 x) → Allowed (of_bits binary64 (to_bits binary64 x)) (numbered a) → Answers x a
 by_bits x a t p = both x a t (subst (λ (y : Float). Allowed y (numbered a)) (of_bits-to_bits binary64 x t) p)
 
 -- for a zero, whose bits are b
 by_zero : (x : Float) (b : ℕ) → T (fits binary64 x) → to_bits binary64 x ≡ b
-    → Allowed (of_bits binary64 b) (done (of_bits binary64 b)) → Answers x (Root x)
+    → Allowed (of_bits binary64 b) (done (of_bits binary64 b)) → Answers x (Ok x)
 by_zero x b t e p =
     let is : of_bits binary64 b ≡ x = subst (λ (n : ℕ). of_bits binary64 n ≡ x) e (of_bits-to_bits binary64 x t) in
-    both x (Root x) t (subst (λ (y : Float). Allowed y (done y)) is p)
+    both x (Ok x) t (subst (λ (y : Float). Allowed y (done y)) is p)
 
 pub returns-then-x : goal.returns-then-x
 returns-then-x c =
-    let all = both c.args.x Refused (held (goal.at.returns-then-x c).Start) (refused-nan c.args.x c.if-x.true) in
+    let all = both c.args.x no_root (held (goal.at.returns-then-x c).Start) (refused-nan c.args.x c.if-x.true) in
     record { nearest = all.0; is = all.1 }
 
 pub float_to_bits-b : goal.float_to_bits-b
@@ -65,11 +65,11 @@ returns-then-b-lt-INFINITY c =
     let b = to_bits binary64 x in
     let r = of_bits binary64 c.root_bits.result in
     let above = above_zero b (omega (arith, c.if-b-eq0.false)) c.if-b-lt-INFINITY.true in
-    let all = by_bits x (Root r) (held (goal.at.returns-then-b-lt-INFINITY c).Start) (allowed-root (of_bits binary64 b) r above c.root_bits.ensures.root) in
+    let all = by_bits x (Ok r) (held (goal.at.returns-then-b-lt-INFINITY c).Start) (allowed-root (of_bits binary64 b) r above c.root_bits.ensures.root) in
     record { nearest = all.0; is = all.1 }
 
 pub returns-else-b-lt-INFINITY : goal.returns-else-b-lt-INFINITY
 returns-else-b-lt-INFINITY c =
     let x = c.args.x in
-    let all = by_bits x Refused (held (goal.at.returns-else-b-lt-INFINITY c).Start) (refused-from (to_bits binary64 x) c.if-b-lt-INFINITY.false c.if-b.false (to_bits-lt binary64 x (held (goal.at.returns-else-b-lt-INFINITY c).Start))) in
+    let all = by_bits x no_root (held (goal.at.returns-else-b-lt-INFINITY c).Start) (refused-from (to_bits binary64 x) c.if-b-lt-INFINITY.false c.if-b.false (to_bits-lt binary64 x (held (goal.at.returns-else-b-lt-INFINITY c).Start))) in
     record { nearest = all.0; is = all.1 }

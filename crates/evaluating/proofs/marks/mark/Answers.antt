@@ -2,7 +2,7 @@
 use Rattle.std.proofs.Common.{length, sym, ◌∙◌, arith}
 use Rattle.rules.specs.Terms.{under}
 use Rattle.rules.proofs.Accepted.{was-accepted, was-done, marks-written}
-use Rattle.evaluating.proofs.Counting.{front-few, marks-counted}
+use Rattle.evaluating.proofs.Counting.{marks-few, front-few, marks-counted}
 use Rattle.evaluating.proofs.marks.mark.Goals as goal
 
 pub slice_bounds-count-end : goal.slice_bounds-count-end
@@ -20,7 +20,11 @@ pub returns : goal.returns
 returns c =
     let s = c.args in
     let pre = c.requires in
-    let marked = c.mark.ensures.marks in record {
-      number = (marks-counted (under s.limits s.width s.stops.now s.moving) s.set.mask s.points.now s.marks.now pre marked c.count.ensures.0, c.count.ensures.1);
-      marks = marked ∙ sym (marks-written (under s.limits s.width s.stops.now s.moving) s.set.mask s.points.now s.marks.now pre);
+    let terms = under s.limits s.width s.stops.now s.moving in
+    let marked = c.mark.ensures.marks in
+    let counted = marks-counted terms s.set.mask s.points.now s.marks.now pre marked c.count.ensures in
+    let none = (was-done terms s.set.mask s.points.now (length s.marks.now) pre).0 in record {
+      number = counted;
+      few = omega (arith, counted, marks-few terms s.set.mask s.points.now (was-accepted terms s.set.mask s.points.now none).few);
+      marks = marked ∙ sym (marks-written terms s.set.mask s.points.now s.marks.now pre);
     }
