@@ -1,7 +1,6 @@
 -- The number of marks: the code counts the ones of each point's marks, and those are the pairs of the point and a test. Assumes nothing.
-use Rattle.std.proofs.Common.{◌≡◌, ℕ, zero, suc, ◌+◌, ◌-◌, ◌≤◌, Bool, ◌&&◌, true, false, List, [], ◌∷◌, ◌*◌, map, length, take, sym, refl, ap, ◌∙◌, ap₂, arith, length-take}
+use Rattle.std.proofs.Common.{◌≡◌, ℕ, zero, suc, ◌+◌, ◌≤◌, Bool, ◌&&◌, true, false, List, [], ◌∷◌, ◌*◌, map, length, take, sym, refl, ap, ◌∙◌, ap₂, arith, length-take}
 use mathlib.Core.Path.{fun_ext}
-use native.Mathlib.Nat.{sub-zero}
 use lib.Count.{ones}
 use Rattle.std.proofs.lemmas.List.Sums.{sum_by-cons}
 use lib.Ieee.{Float}
@@ -55,14 +54,14 @@ marks-few terms set values few = omega (arith, number-most (marks_of terms set v
 
 -- ---- the marks at the front of their slice
 
-pub front-few : (n : ℕ) (l : List ℕ) → n ≤ most → length (take (n - 0) l) ≤ most
-front-few n l h = omega (arith, length-take (n - 0) l)
+pub front-few : (n : ℕ) (l : List ℕ) → n ≤ most → length (take n l) ≤ most
+front-few n l h = omega (arith, length-take n l)
 
 pub marks-counted : (terms : Terms) (set : ℕ) (values : List Float) (old : List ℕ) → answer_of terms set values (length old) ≡ 0
-    → {n : ℕ} {now : List ℕ} → now ≡ marks_after terms set values old → n ≡ ones_in (take (length values - 0) now)
+    → {n : ℕ} {now : List ℕ} → now ≡ marks_after terms set values old → n ≡ ones_in (take (length values) now)
     → n ≡ number_of (marks_of terms set values)
 marks-counted terms set values old accepted e f =
     f
-    ∙ ap₂ (λ (k : ℕ) (l : List ℕ). ones_in (take k l)) (sub-zero (length values)) e
+    ∙ ap (λ (l : List ℕ). ones_in (take (length values) l)) e
     ∙ ap ones_in (marks-front terms set values old accepted)
     ∙ ones-marks terms set values

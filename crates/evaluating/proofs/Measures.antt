@@ -1,7 +1,6 @@
 -- What is measured of a chart: the series at the front of their slices, and the limits by their means. Assumes nothing.
-use Rattle.std.proofs.Common.{◌≡◌, ℕ, ◌-◌, Bool, true, false, ◌&&◌, List, take, sym, refl, ap, ◌∙◌, ap₂, take_at}
+use Rattle.std.proofs.Common.{◌≡◌, ℕ, Bool, true, false, ◌&&◌, List, take, sym, refl, ap, ◌∙◌, ap₂, take_at}
 use Rattle.std.specs.Prelude.{Ok, Err}
-use native.Mathlib.Nat.{sub-zero}
 use lib.Ieee.{Float}
 use Rattle.laws.specs.Lists.{tabulate}
 use Rattle.laws.specs.Front.{at_front}
@@ -12,11 +11,10 @@ use Rattle.rules.specs.declared.Limits.{Limits}
 use Rattle.rules.specs.Finite.{finite_limits}
 use Rattle.arith.specs.Arith.{mean_of}
 use Rattle.arith.proofs.Means.{finite-mean}
-use Rattle.charts.specs.declared.Chart.{Chart}
 use Rattle.charts.specs.declared.Refusal.{Refusal}
 use Rattle.charts.specs.declared.Refusal.TheVariants.{Overflow}
 use Rattle.evaluating.specs.declared.ChartLimits.{ChartLimits}
-use Rattle.evaluating.specs.Asked.{Asked, interrupted, in_mode, stops_among}
+use Rattle.evaluating.specs.Asked.{Asked, interrupted, in_mode}
 use Rattle.evaluating.specs.Series.{by_series, point_at, points_in, series_of}
 use Rattle.evaluating.specs.Limits.{main_limits, dispersion_limits, centre_of, limits_of}
 use Rattle.evaluating.specs.Evaluating.{sound}
@@ -25,15 +23,11 @@ use Rattle.evaluating.specs.Steps.{unless_overflow, limits_from, measured}
 -- ---- a series at the front of its slice
 
 pub front-series : (a : Asked) (s n : ℕ) (old now : List Float) → n ≡ points_in a.chart s
-    → now ≡ at_front (series_of a s) old → take (n - 0) now ≡ series_of a s
+    → now ≡ at_front (series_of a s) old → take n now ≡ series_of a s
 unfolding series_of
 front-series a s n old now e f =
-    ap₂ (λ (k : ℕ) (l : List Float). take k l) (sub-zero n ∙ e) f
+    ap₂ (λ (k : ℕ) (l : List Float). take k l) e f
     ∙ take_at (tabulate (point_at a s) (points_in a.chart s)) _ (points_in a.chart s) (length-tabulate (point_at a s) (points_in a.chart s))
-
--- the stops at the front of the positions
-pub front-stops : (c : Chart) (positions : List ℕ) → take (c.stops - 0) positions ≡ stops_among c positions
-front-stops c positions = ap (λ (n : ℕ). take n positions) (sub-zero c.stops)
 
 -- ---- finite limits are those of finite points
 

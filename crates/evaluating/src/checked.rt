@@ -12,51 +12,9 @@ ghost use Rattle.evaluating.specs.Evaluating.{evaluated, positions_wrong, no_roo
 ghost use Rattle.evaluating.specs.Steps.{ahead};
 
 use super::series::Series;
-use super::{ChartLimits, Evaluation, limits, marks, series};
+use super::{Evaluation, limits, marks, series};
 use charts::{Chart, INDIVIDUALS, Refusal};
-use sets::RuleSet;
-
-// Marks both series; `moving` says whether that of the dispersion is one of moving ranges.
-fn mark_both(
-    set: RuleSet,
-    w: ChartLimits,
-    width: u64,
-    stops: &[usize],
-    moving: bool,
-    main: &[f64],
-    dispersion: &[f64],
-    main_marks: &mut [u16],
-    dispersion_marks: &mut [u16],
-) -> Evaluation
-    requires { (answer_of (under w.main width stops.now false) set.mask main.now (length main_marks.old) ≡ 0)
-        × (answer_of (under w.dispersion width stops.now moving) set.mask dispersion.now (length dispersion_marks.old) ≡ 0) }
-    ensures answer { result ≡ record {
-      main = w.main;
-      dispersion = w.dispersion;
-      marks = number_of (marks_of (under w.main width stops.now false) set.mask main.now)
-          + number_of (marks_of (under w.dispersion width stops.now moving) set.mask dispersion.now);
-    } }
-    ensures main_marks { main_marks.new
-        ≡ at_front (marks_of (under w.main width stops.now false) set.mask main.now) main_marks.old }
-    ensures dispersion_marks { dispersion_marks.new
-        ≡ at_front (marks_of (under w.dispersion width stops.now moving) set.mask dispersion.now) dispersion_marks.old }
-{
-    let n = marks::mark(main, stops, false, w.main, width, set, main_marks);
-    let k = marks::mark(
-        dispersion,
-        stops,
-        moving,
-        w.dispersion,
-        width,
-        set,
-        dispersion_marks,
-    );
-    Evaluation {
-        main: w.main,
-        dispersion: w.dispersion,
-        marks: n + k,
-    }
-}
+use rules::Terms;
 
 // Evaluates a chart that passed the tests ahead of the arithmetic.
 pub fn evaluate(
@@ -90,16 +48,25 @@ pub fn evaluate(
             super::clear(main, dispersion, main_marks, dispersion_marks);
             Err(why)
         }
-        Ok(w) => Ok(mark_both(
-            c.set,
-            w,
-            width,
-            &positions[0..c.stops],
-            c.kind == INDIVIDUALS,
-            &main[0..n],
-            &dispersion[0..k],
-            main_marks,
-            dispersion_marks,
-        )),
+        Ok(w) => {
+            let of_main = Terms {
+                limits: w.main,
+                width,
+                stops: &positions[..c.stops],
+                moving: false,
+            };
+            let of_dispersion = Terms {
+                limits: w.dispersion,
+                moving: c.kind == INDIVIDUALS,
+                ..of_main
+            };
+            let marks = marks::mark(&main[..n], of_main, c.set, main_marks);
+            let others = marks::mark(&dispersion[..k], of_dispersion, c.set, dispersion_marks);
+            Ok(Evaluation {
+                main: w.main,
+                dispersion: w.dispersion,
+                marks: marks + others,
+            })
+        }
     }
 }

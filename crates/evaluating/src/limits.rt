@@ -94,7 +94,7 @@ pub fn measure(
     fill(c, Series::Dispersion, values, dispersion);
     limits_from(
         c,
-        arith::mean_of(&main[0..n]),
-        arith::mean_of(&dispersion[0..k]),
+        arith::mean_of(&main[..n]),
+        arith::mean_of(&dispersion[..k]),
     )
 }

@@ -25,7 +25,7 @@ pub const SAME_WIDTHS: u64 = 0;
 pub const OWN_WIDTHS: u64 = 1;
 
 /// Control limits: the upper limit, the centre line, the lower limit.
-#[derive(Clone, Copy)]
+#[derive(Clone, Copy, Debug, PartialEq)]
 pub struct Limits {
     pub ucl: f64,
     pub cl: f64,

@@ -1,18 +1,17 @@
 -- `checked::evaluate` meets its contract: not sound, and all is zero; sound, and both series are marked. Assumes nothing.
-use Rattle.std.proofs.Common.{◌≡◌, ◌-◌, Bool, true, length, take, sym, refl, ap, ◌∙◌, arith}
+use Rattle.std.proofs.Common.{◌≡◌, ℕ, ◌+◌, ap₂, Bool, true, length, take, length-take, sym, refl, ap, ◌∙◌, arith}
 use Rattle.laws.proofs.LentAfter.{slice-7, slice-done}
 use Rattle.rules.specs.Lines.{width_wrong}
 use Rattle.evaluating.specs.declared.ChartLimits.{ChartLimits}
-use Rattle.evaluating.specs.declared.Evaluation.{Evaluation}
 use Rattle.evaluating.specs.Asked.{Asked, asked, interrupted, in_mode}
 use Rattle.evaluating.specs.Series.{series_of}
 use Rattle.evaluating.specs.Limits.{limits_of}
 use Rattle.evaluating.specs.Evaluating.{answer_done, positions_wrong, no_room, sound}
 use Rattle.evaluating.proofs.SeriesPoints.{moving-main, moving-is}
-use Rattle.evaluating.proofs.Measures.{front-series, front-stops, same-series, same-measures, wild, right}
+use Rattle.evaluating.proofs.Measures.{front-series, same-series, same-measures, wild, right}
 use Rattle.evaluating.proofs.Outcomes.{Rooms, rooms, Ahead, were-ahead, number-7, number-0, answer-refused, answer-done}
 use Rattle.evaluating.proofs.Outcomes.{counted, sound-parts, marking-done, marks-are, done-by}
-use Rattle.evaluating.proofs.checked.evaluate.Goals.{After-measure, In-Ok, Start}
+use Rattle.evaluating.proofs.checked.evaluate.Goals.{In-Ok, Start}
 use Rattle.evaluating.proofs.checked.evaluate.Goals as goal
 
 -- ---- what is asked, and what its tests told
@@ -56,17 +55,25 @@ returns-in-Err c =
 
 -- ---- sound
 
-pub slice_bounds-mark_both-end : goal.slice_bounds-mark_both-end
-slice_bounds-mark_both-end c =
-    counted _ _ (fine (goal.at.slice_bounds-mark_both-end c).Start).stopped
+pub slice_bounds-of_main-end : goal.slice_bounds-of_main-end
+slice_bounds-of_main-end c =
+    omega (arith, length-take c.args.c.stops c.args.positions.now, counted _ _ (fine (goal.at.slice_bounds-of_main-end c).Start).stopped)
 
-pub slice_bounds-mark_both-end-in-Ok : goal.slice_bounds-mark_both-end-in-Ok
-slice_bounds-mark_both-end-in-Ok c =
-    omega (arith, (room (goal.at.slice_bounds-mark_both-end-in-Ok c).Start).main-room, c.points_in-n.ensures, c.measure.auto)
+pub slice_bounds-mark-end : goal.slice_bounds-mark-end
+slice_bounds-mark-end c =
+    omega (arith, (room (goal.at.slice_bounds-mark-end c).Start).main-room, c.points_in-n.ensures, c.measure.auto)
 
-pub slice_bounds-mark_both-end-in-Ok-2 : goal.slice_bounds-mark_both-end-in-Ok-2
-slice_bounds-mark_both-end-in-Ok-2 c =
-    omega (arith, (room (goal.at.slice_bounds-mark_both-end-in-Ok-2 c).Start).dispersion-room, c.points_in-k.ensures, c.measure.auto)
+pub slice_bounds-mark-end-in-Ok : goal.slice_bounds-mark-end-in-Ok
+slice_bounds-mark-end-in-Ok c =
+    omega (arith, length-take c.points_in-n.result c.measure.new.main, (room (goal.at.slice_bounds-mark-end-in-Ok c).Start).main-room, c.points_in-n.ensures, c.measure.auto)
+
+pub slice_bounds-mark-end-in-Ok-2 : goal.slice_bounds-mark-end-in-Ok-2
+slice_bounds-mark-end-in-Ok-2 c =
+    omega (arith, (room (goal.at.slice_bounds-mark-end-in-Ok-2 c).Start).dispersion-room, c.points_in-k.ensures, c.measure.auto)
+
+pub slice_bounds-mark-end-in-Ok-3 : goal.slice_bounds-mark-end-in-Ok-3
+slice_bounds-mark-end-in-Ok-3 c =
+    omega (arith, length-take c.points_in-k.result c.measure.new.dispersion, (room (goal.at.slice_bounds-mark-end-in-Ok-3 c).Start).dispersion-room, c.points_in-k.ensures, c.measure.auto)
 
 -- what was measured: the limits, and the points at the front of both slices
 
@@ -88,42 +95,43 @@ dispersion-limits : (c : In-Ok) → c.in-Ok.w.dispersion ≡ limits_of (whole c)
 dispersion-limits c =
     ap (λ (l : ChartLimits). l.dispersion) (found c).1
 
-main-points : (c : In-Ok) → take (c.points_in-n.result - 0) c.measure.new.main ≡ series_of (whole c) 0
+main-points : (c : In-Ok) → take c.points_in-n.result c.measure.new.main ≡ series_of (whole c) 0
 main-points c =
     front-series (plain c) 0 _ c.args.main.now _ c.points_in-n.ensures c.in-Ok.ensures.main
     ∙ sym (same-series (plain c) c.args.positions.now c.args.width 0)
 
-dispersion-points : (c : In-Ok) → take (c.points_in-k.result - 0) c.measure.new.dispersion ≡ series_of (whole c) 1
+dispersion-points : (c : In-Ok) → take c.points_in-k.result c.measure.new.dispersion ≡ series_of (whole c) 1
 dispersion-points c =
     front-series (plain c) 1 _ c.args.dispersion.now _ c.points_in-k.ensures c.in-Ok.ensures.dispersion
     ∙ sym (same-series (plain c) c.args.positions.now c.args.width 1)
 
-pub mark_both-requires : goal.mark_both-requires
-mark_both-requires c =
-    let here = (goal.at.mark_both-requires c).In-Ok in
-    let first = (goal.at.mark_both-requires c).Start in
-    let a = whole here in
+pub mark-marks-requires : goal.mark-marks-requires
+mark-marks-requires c =
+    let here = (goal.at.mark-marks-requires c).In-Ok in
+    let first = (goal.at.mark-marks-requires c).Start in
     let tests = fine first in
-    let parts = sound-parts a (found here).0 in
-    let stops = front-stops c.args.c c.args.positions.now in (
-      marking-done a 0 (main-limits here) (main-points here) stops (moving-main c.args.c)
-          _ tests.right tests.stopped tests.moded tests.enough parts.0 (room first).main-marks-room,
-      marking-done a 1 (dispersion-limits here) (dispersion-points here) stops (moving-is c.args.c)
-          _ tests.right tests.stopped tests.moded tests.enough parts.1 (room first).dispersion-marks-room,
-    )
+    marking-done (whole here) 0 (main-limits here) (main-points here) refl (moving-main c.args.c)
+    _ tests.right tests.stopped tests.moded tests.enough (sound-parts (whole here) (found here).0).0 (room first).main-marks-room
+
+pub mark-others-requires : goal.mark-others-requires
+mark-others-requires c =
+    let here = (goal.at.mark-others-requires c).In-Ok in
+    let first = (goal.at.mark-others-requires c).Start in
+    let tests = fine first in
+    marking-done (whole here) 1 (dispersion-limits here) (dispersion-points here) refl (moving-is c.args.c)
+    _ tests.right tests.stopped tests.moded tests.enough (sound-parts (whole here) (found here).0).1 (room first).dispersion-marks-room
 
 pub returns-in-Ok : goal.returns-in-Ok
 returns-in-Ok c =
     let here = (goal.at.returns-in-Ok c).In-Ok in
     let a = whole here in
-    let stops = front-stops c.args.c c.args.positions.now in
-    let main = marks-are a 0 (main-limits here) (main-points here) stops (moving-main c.args.c) in
-    let dispersion = marks-are a 1 (dispersion-limits here) (dispersion-points here) stops (moving-is c.args.c) in record {
-      answer = ap (λ (e : Evaluation). answer_done e.main e.dispersion e.marks) c.mark_both.ensures.answer
+    let main = marks-are a 0 (main-limits here) (main-points here) refl (moving-main c.args.c) in
+    let dispersion = marks-are a 1 (dispersion-limits here) (dispersion-points here) refl (moving-is c.args.c) in record {
+      answer = ap₂ (λ (n k : ℕ). answer_done c.in-Ok.w.main c.in-Ok.w.dispersion (n + k)) c.mark-marks.ensures.number c.mark-others.ensures.number
           ∙ done-by a (main-limits here) (dispersion-limits here) main dispersion
           ∙ answer-done a (short (goal.at.returns-in-Ok c).Start) (number-0 _ _ _ _ c.requires (found here).0);
       main = slice-done _ _ _ c.args.main.now c.in-Ok.ensures.main refl;
       dispersion = slice-done _ _ _ c.args.dispersion.now c.in-Ok.ensures.dispersion refl;
-      main_marks = slice-done _ _ _ c.args.main_marks.now c.mark_both.ensures.main_marks main;
-      dispersion_marks = slice-done _ _ _ c.args.dispersion_marks.now c.mark_both.ensures.dispersion_marks dispersion;
+      main_marks = slice-done _ _ _ c.args.main_marks.now c.mark-marks.ensures.marks main;
+      dispersion_marks = slice-done _ _ _ c.args.dispersion_marks.now c.mark-others.ensures.marks dispersion;
     }
