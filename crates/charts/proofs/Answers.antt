@@ -5,11 +5,11 @@ use mathlib.Core.Bool.{cond}
 use Prim.Native.Nat.{ℕ}
 use native.Mathlib.Omega.{arith}
 use lib.Dec.{eqb}
+use Rattle.std.specs.Prelude.{Result}
+use Rattle.numbers.proofs.Numbers.{Telling, answered-one}
 use Rattle.charts.specs.declared.Chart.{Chart}
 use Rattle.charts.specs.declared.Refusal.{Refusal}
 use Rattle.charts.specs.declared.Refusal.TheVariants as refusing
-use Rattle.charts.specs.declared.Changed.{Changed}
-use Rattle.charts.specs.declared.Changed.TheVariants as changing
 use Rattle.charts.specs.Records.{number, changed}
 
 -- ---- refusals
@@ -57,10 +57,10 @@ named-number refusing.WidthMode = refl
 pub number-one : (a b : Refusal) → number a ≡ number b → a ≡ b
 number-one a b e = sym (named-number a) ∙ ap named e ∙ named-number b
 
+pub tells : Telling number
+tells = record { not_done = λ why e. number-some why (sym e); one = number-one }
+
 -- ---- answers
 
-pub changed-one : (before : Chart) (a b : Changed) → changed before a ≡ changed before b → a ≡ b
-changed-one before (changing.Done c) (changing.Done d) e = ap changing.Done (ap (λ p. p.1) e)
-changed-one before (changing.Done c) (changing.Refused w) e = absurd (number-some w (sym (ap (λ p. p.0) e)))
-changed-one before (changing.Refused v) (changing.Done d) e = absurd (number-some v (ap (λ p. p.0) e))
-changed-one before (changing.Refused v) (changing.Refused w) e = ap changing.Refused (number-one v w (ap (λ p. p.0) e))
+pub changed-one : (before : Chart) (a b : Result Chart Refusal) → changed before a ≡ changed before b → a ≡ b
+changed-one before = answered-one tells _ before (λ c d e. e)

@@ -1,8 +1,9 @@
 -- The record of a chart, and the calls that make one and change one (01, 'The charts'; 'Numbers a call may give back', rows 1, 2, 4, 5, 6
 -- and 14, and Order; 02, R-1: the count of stops; R-6: a new chart's set). Definitions only.
-use Rattle.std.specs.Prelude.{Bool, cond, not, ◌||◌, List, [], ◌∷◌, ◌++◌, ℕ, ◌+◌, ◌*◌, leb, ltb, eqb, Float, length, take, drop}
+use Rattle.std.specs.Prelude.{Bool, cond, not, ◌||◌, List, [], ◌∷◌, ◌++◌, ℕ, ◌+◌, ◌*◌, leb, ltb, eqb, Float, length, take, drop, Result}
 use Rattle.laws.specs.Refusals.{first_of}
 use Rattle.laws.specs.Front.{at_front}
+use Rattle.numbers.specs.Numbers.{answered}
 use Rattle.sets.specs.declared.RuleSet.{RuleSet}
 use Rattle.sets.specs.Sets.{too_large}
 use Rattle.rules.specs.Marking.{most}
@@ -10,8 +11,6 @@ use Rattle.floats.specs.Finite.{all_finite}
 use Rattle.charts.specs.declared.Chart.{Chart}
 use Rattle.charts.specs.declared.Refusal.{Refusal}
 use Rattle.charts.specs.declared.Refusal.TheVariants as refusing
-use Rattle.charts.specs.declared.Changed.{Changed}
-use Rattle.charts.specs.declared.Changed.TheVariants.{Done, Refused}
 
 -- ---- 01's number of each refusal, and the number and the record that each answer stands for
 
@@ -29,9 +28,8 @@ number refusing.Stops = 15
 number refusing.WidthMode = 21
 
 -- "A refusal gives back the record unchanged"
-abbrev pub changed : Chart → Changed → ℕ × Chart
-changed before (Done c) = (0, c)
-changed before (Refused why) = (number why, before)
+abbrev pub changed : Chart → Result Chart Refusal → ℕ × Chart
+changed before = answered number (λ c. c) before
 
 -- ---- "Kind 1 is individual-MR, size 1. Kinds 2 and 3 are X-bar-R and X-bar-S, size 2 to 25."
 

@@ -1,12 +1,12 @@
 // The record of a chart of individuals, of means and ranges or of means and deviations, and the calls that make one and change one.
 #![tactic(auto)]
 
-mod lent;
 mod records;
 
 ghost use Rattle.std.specs.Prelude.{◌≡◌};
 ghost use Rattle.charts.specs.Records.{number, changed, no_chart, new_of, with_set_of, with_stops_of, add_of, values_after, own_wrong, record_wrong};
 
+use numbers::Numbered;
 use rules::MOST;
 use sets::RuleSet;
 
@@ -25,7 +25,7 @@ pub const X_BAR_S: u64 = 3;
 /// The numbers may be any. A record that is no chart is refused by every call (14): its kind is not 1 to 3, its size is
 /// not one of the kind (1 for kind 1, 2 to 25 for kinds 2 and 3), its count is over 4,096, its set is over 511, or, where
 /// values are lent, count times size is over their length.
-#[derive(Clone, Copy)]
+#[derive(Clone, Copy, Debug, PartialEq, Eq)]
 pub struct Chart {
     /// [`INDIVIDUALS`] (1), [`X_BAR_R`] (2) or [`X_BAR_S`] (3).
     pub kind: u64,
@@ -40,7 +40,7 @@ pub struct Chart {
 }
 
 /// Why a call is refused. The number is that of document 01, "Numbers a call may give back".
-#[derive(Clone, Copy)]
+#[derive(Clone, Copy, Debug, PartialEq, Eq)]
 pub enum Refusal {
     /// The size is not allowed for the kind (1).
     Size,
@@ -66,22 +66,13 @@ pub enum Refusal {
     WidthMode,
 }
 
-/// What making or changing a chart answers.
-#[derive(Clone, Copy)]
-pub enum Changed {
-    /// The chart (0).
-    Done(Chart),
-    /// The chart is as it was; of [`Chart::new`], there is none.
-    Refused(Refusal),
-}
+impl Numbered for Refusal {
+    ghost number = { number };
 
-impl Refusal {
     /// The refusal's number in document 01.
     ///
     /// `Refusal::Record.number()` is 14.
-    pub fn number(self) -> u8
-        ensures { result ≡ number self }
-    {
+    fn number(&self) -> u8 {
         match self {
             Refusal::Size => 1,
             Refusal::Length => 2,
@@ -98,39 +89,26 @@ impl Refusal {
     }
 }
 
-impl Changed {
-    /// 01's number of the answer.
-    ///
-    /// `Chart::new(2, 1).number()` is 1.
-    pub fn number(self) -> u8
-        ensures { result ≡ (changed no_chart self).0 }
-    {
-        match self {
-            Changed::Done(_) => 0,
-            Changed::Refused(why) => why.number(),
-        }
-    }
-}
-
 impl Chart {
     /// A chart with no samples, the set nelson and no stops. [`Chart::with_set`] gives it another set.
     ///
-    /// Gives `Done` with the chart. Refuses, in this order: a kind that is not 1 to 3 (14, `Record`), a size that is not
+    /// Gives `Ok` with the chart. Refuses, in this order: a kind that is not 1 to 3 (14, `Record`), a size that is not
     /// allowed for the kind (1, `Size`).
     ///
-    /// `Chart::new(2, 5)` is `Changed::Done` with `Chart { kind: 2, size: 5, count: 0, set: RuleSet::nelson(), stops: 0 }`.
-    pub fn new(kind: u64, size: usize) -> Changed
+    /// `Chart::new(2, 5)` is `Ok(Chart { kind: 2, size: 5, count: 0, set: RuleSet::nelson(), stops: 0 })`.
+    #[tactic(auto, unfolding(crate::specs::Records::new_of, laws::specs::Refusals::first_of))]
+    pub fn new(kind: u64, size: usize) -> Result<Chart, Refusal>
         ensures { changed no_chart result ≡ new_of kind size }
     {
         if records::kind_wrong(kind) {
-            return Changed::Refused(Refusal::Record);
+            return Err(Refusal::Record);
         }
         if records::size_wrong(kind, size) {
-            return Changed::Refused(Refusal::Size);
+            return Err(Refusal::Size);
         }
-        Changed::Done(Chart {
-            kind: kind,
-            size: size,
+        Ok(Chart {
+            kind,
+            size,
             count: 0,
             set: RuleSet::nelson(),
             stops: 0,
@@ -140,6 +118,7 @@ impl Chart {
     /// Whether the record is no chart by its own numbers (14).
     ///
     /// Of a chart that [`Chart::new`] made it is `false`.
+    #[tactic(auto, unfolding(crate::specs::Records::own_wrong))]
     pub fn own_wrong(self) -> bool
         ensures { result ≡ own_wrong self }
     {
@@ -151,6 +130,7 @@ impl Chart {
     /// Whether the record is no chart beside a slice of so many values (14).
     ///
     /// Of a chart of size 5 that holds 3 samples, `record_wrong(14)` is `true`, and `record_wrong(15)` is `false`.
+    #[tactic(auto, unfolding(crate::specs::Records::record_wrong))]
     pub fn record_wrong(self, values: usize) -> bool
         ensures { result ≡ record_wrong self values }
     {
@@ -159,38 +139,36 @@ impl Chart {
 
     /// This chart with another set.
     ///
-    /// Gives `Done` with the chart. Refuses, in this order: a record that is no chart, by its own numbers (14, `Record`),
+    /// Gives `Ok` with the chart. Refuses, in this order: a record that is no chart, by its own numbers (14, `Record`),
     /// a set over 511 (4, `Set`).
     ///
-    /// `chart.with_set(RuleSet::shewhart())` is `Changed::Done` with the same chart, but for `set: RuleSet::shewhart()`.
-    pub fn with_set(self, set: RuleSet) -> Changed
+    /// `chart.with_set(RuleSet::shewhart())` is `Ok` with the same chart, but for `set: RuleSet::shewhart()`.
+    #[tactic(auto, unfolding(crate::specs::Records::with_set_of, laws::specs::Refusals::first_of))]
+    pub fn with_set(self, set: RuleSet) -> Result<Chart, Refusal>
         ensures { changed self result ≡ with_set_of self set }
     {
         if self.own_wrong() {
-            return Changed::Refused(Refusal::Record);
+            return Err(Refusal::Record);
         }
         if RuleSet::ALL < set.mask {
-            return Changed::Refused(Refusal::Set);
+            return Err(Refusal::Set);
         }
-        let mut chart = self;
-        chart.set = set;
-        Changed::Done(chart)
+        Ok(Chart { set, ..self })
     }
 
     /// This chart with another count of stops: of the positions that are lent to evaluating, so many are stops.
     ///
-    /// Gives `Done` with the chart, whatever the count. Refuses a record that is no chart, by its own numbers (14, `Record`).
+    /// Gives `Ok` with the chart, whatever the count. Refuses a record that is no chart, by its own numbers (14, `Record`).
     ///
-    /// `chart.with_stops(2)` is `Changed::Done` with the same chart, but for `stops: 2`.
-    pub fn with_stops(self, stops: usize) -> Changed
+    /// `chart.with_stops(2)` is `Ok` with the same chart, but for `stops: 2`.
+    #[tactic(auto, unfolding(crate::specs::Records::with_stops_of, laws::specs::Refusals::first_of))]
+    pub fn with_stops(self, stops: usize) -> Result<Chart, Refusal>
         ensures { changed self result ≡ with_stops_of self stops }
     {
         if self.own_wrong() {
-            return Changed::Refused(Refusal::Record);
+            return Err(Refusal::Record);
         }
-        let mut chart = self;
-        chart.stops = stops;
-        Changed::Done(chart)
+        Ok(Chart { stops, ..self })
     }
 
     /// Appends one sample: writes it behind the samples held, at count times size, and gives the chart with one sample
@@ -202,31 +180,33 @@ impl Chart {
     ///
     /// With a chart of kind 1 that holds nothing, `add(&mut values, &[8.0])` writes 8.0 to `values[0]` and gives the chart
     /// with count 1.
-    pub fn add(self, values: &mut [f64], sample: &[f64]) -> Changed
+    #[tactic(auto, unfolding(crate::specs::Records::add_of, crate::specs::Records::values_after, laws::specs::Refusals::first_of))]
+    pub fn add(self, values: &mut [f64], sample: &[f64]) -> Result<Chart, Refusal>
         ensures answer { changed self result ≡ add_of self values.old sample.now }
         ensures values { values.new
             ≡ values_after (changed self result).0 self sample.now values.old }
     {
         if self.record_wrong(values.len()) {
-            return Changed::Refused(Refusal::Record);
+            return Err(Refusal::Record);
         }
         if sample.len() != self.size {
-            return Changed::Refused(Refusal::Length);
+            return Err(Refusal::Length);
         }
         if !floats::all_finite(sample) {
-            return Changed::Refused(Refusal::NotFinite);
+            return Err(Refusal::NotFinite);
         }
         if MOST <= self.count {
-            return Changed::Refused(Refusal::Full);
+            return Err(Refusal::Full);
         }
         let at = self.count * self.size;
         let end = at + self.size;
         if values.len() < end {
-            return Changed::Refused(Refusal::TooShort);
+            return Err(Refusal::TooShort);
         }
-        lent::copy(&mut values[at..end], sample);
-        let mut chart = self;
-        chart.count = self.count + 1;
-        Changed::Done(chart)
+        values[at..end].copy_from_slice(sample);
+        Ok(Chart {
+            count: self.count + 1,
+            ..self
+        })
     }
 }

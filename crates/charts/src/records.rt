@@ -10,6 +10,7 @@ pub fn kind_wrong(kind: u64) -> bool
     (kind < INDIVIDUALS) | (X_BAR_S < kind)
 }
 
+#[tactic(auto, unfolding(crate::specs::Records::size_wrong, crate::specs::Records::by_kind))]
 pub fn size_wrong(kind: u64, size: usize) -> bool
     ensures { result ≡ size_wrong kind size }
 {

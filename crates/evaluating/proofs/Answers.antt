@@ -1,51 +1,45 @@
 -- Two answers with one number and the same values are one answer: so a promise on the number and the values fixes the answer.
 -- Assumes nothing.
-use Rattle.std.proofs.Common.{◌≡◌, sym, ap, ap₂}
+use Rattle.std.proofs.Common.{◌≡◌, ℕ, sym, ap, ap₂}
+use Rattle.std.specs.Prelude.{Result, Ok, Err}
 use lib.Ieee.{Float}
-use Rattle.charts.proofs.Answers.{number-some, number-one}
+use Rattle.numbers.proofs.Numbers.{answered-one}
+use Rattle.rules.specs.declared.Limits.{Limits}
+use Rattle.charts.specs.declared.Refusal.{Refusal}
+use Rattle.charts.proofs.Answers.{number-some, number-one, tells}
 use Rattle.evaluating.specs.declared.Lengths.{Lengths}
-use Rattle.evaluating.specs.declared.Lengths.TheVariants as measuring
-use Rattle.evaluating.specs.declared.Evaluated.{Evaluated}
-use Rattle.evaluating.specs.declared.Evaluated.TheVariants as evaluating
-use Rattle.evaluating.specs.declared.Estimated.{Estimated}
-use Rattle.evaluating.specs.declared.Estimated.TheVariants as estimating
-use Rattle.evaluating.specs.declared.Figure.{Figure}
-use Rattle.evaluating.specs.declared.Figure.TheVariants as figuring
+use Rattle.evaluating.specs.declared.ChartLimits.{ChartLimits}
+use Rattle.evaluating.specs.declared.Evaluation.{Evaluation}
+use Rattle.evaluating.specs.declared.SigmaFigures.{SigmaFigures}
 use Rattle.evaluating.specs.Series.{lengths}
-use Rattle.evaluating.specs.declared.Limited.{Limited}
-use Rattle.evaluating.specs.declared.Limited.TheVariants as limiting
 use Rattle.evaluating.specs.Evaluating.{evaluated}
 use Rattle.evaluating.specs.Centres.{limited}
 use Rattle.evaluating.specs.Sigma.{figured, estimated}
 
-pub lengths-one : (a b : Lengths) → lengths a ≡ lengths b → a ≡ b
-lengths-one (measuring.Done m d) (measuring.Done n s) e = ap₂ measuring.Done (ap (λ p. p.1) e) (ap (λ p. p.2) e)
-lengths-one (measuring.Done m d) (measuring.Refused w) e = absurd (number-some w (sym (ap (λ p. p.0) e)))
-lengths-one (measuring.Refused v) (measuring.Done n s) e = absurd (number-some v (ap (λ p. p.0) e))
-lengths-one (measuring.Refused v) (measuring.Refused w) e = ap measuring.Refused (number-one v w (ap (λ p. p.0) e))
+pub lengths-one : (a b : Result Lengths Refusal) → lengths a ≡ lengths b → a ≡ b
+lengths-one (Ok m) (Ok n) e = ap₂ (λ (x y : ℕ). Ok (record { main = x; dispersion = y })) (ap (λ p. p.1) e) (ap (λ p. p.2) e)
+lengths-one (Ok m) (Err w) e = absurd (number-some w (sym (ap (λ p. p.0) e)))
+lengths-one (Err v) (Ok n) e = absurd (number-some v (ap (λ p. p.0) e))
+lengths-one (Err v) (Err w) e = ap (λ (y : Refusal). Err y) (number-one v w (ap (λ p. p.0) e))
 
-pub evaluated-one : (a b : Evaluated) → evaluated a ≡ evaluated b → a ≡ b
-evaluated-one (evaluating.Done c) (evaluating.Done d) e =
-    λ i. evaluating.Done (record { main = (e i).main; dispersion = (e i).dispersion; marks = (e i).marks })
-evaluated-one (evaluating.Done c) (evaluating.Refused w) e = absurd (number-some w (sym (ap (λ p. p.number) e)))
-evaluated-one (evaluating.Refused v) (evaluating.Done d) e = absurd (number-some v (ap (λ p. p.number) e))
-evaluated-one (evaluating.Refused v) (evaluating.Refused w) e = ap evaluating.Refused (number-one v w (ap (λ p. p.number) e))
+pub evaluated-one : (a b : Result Evaluation Refusal) → evaluated a ≡ evaluated b → a ≡ b
+evaluated-one (Ok c) (Ok d) e = λ i. Ok (record { main = (e i).main; dispersion = (e i).dispersion; marks = (e i).marks })
+evaluated-one (Ok c) (Err w) e = absurd (number-some w (sym (ap (λ p. p.number) e)))
+evaluated-one (Err v) (Ok d) e = absurd (number-some v (ap (λ p. p.number) e))
+evaluated-one (Err v) (Err w) e = ap (λ (y : Refusal). Err y) (number-one v w (ap (λ p. p.number) e))
 
-pub estimated-one : (a b : Estimated) → estimated a ≡ estimated b → a ≡ b
-estimated-one (estimating.Done c) (estimating.Done d) e =
-    ap₂ (λ (h f : Float). estimating.Done (record { sigma_hat = h; sigma_hat_df = f })) (ap (λ p. p.1) e) (ap (λ p. p.2) e)
-estimated-one (estimating.Done c) (estimating.Refused w) e = absurd (number-some w (sym (ap (λ p. p.0) e)))
-estimated-one (estimating.Refused v) (estimating.Done d) e = absurd (number-some v (ap (λ p. p.0) e))
-estimated-one (estimating.Refused v) (estimating.Refused w) e = ap estimating.Refused (number-one v w (ap (λ p. p.0) e))
+pub estimated-one : (a b : Result SigmaFigures Refusal) → estimated a ≡ estimated b → a ≡ b
+estimated-one (Ok c) (Ok d) e =
+    ap₂ (λ (h f : Float). Ok (record { sigma_hat = h; sigma_hat_df = f })) (ap (λ p. p.1) e) (ap (λ p. p.2) e)
+estimated-one (Ok c) (Err w) e = absurd (number-some w (sym (ap (λ p. p.0) e)))
+estimated-one (Err v) (Ok d) e = absurd (number-some v (ap (λ p. p.0) e))
+estimated-one (Err v) (Err w) e = ap (λ (y : Refusal). Err y) (number-one v w (ap (λ p. p.0) e))
 
-pub figured-one : (a b : Figure) → figured a ≡ figured b → a ≡ b
-figured-one (figuring.Done x) (figuring.Done y) e = ap figuring.Done (ap (λ p. p.1) e)
-figured-one (figuring.Done x) (figuring.Refused w) e = absurd (number-some w (sym (ap (λ p. p.0) e)))
-figured-one (figuring.Refused v) (figuring.Done y) e = absurd (number-some v (ap (λ p. p.0) e))
-figured-one (figuring.Refused v) (figuring.Refused w) e = ap figuring.Refused (number-one v w (ap (λ p. p.0) e))
+pub figured-one : (a b : Result Float Refusal) → figured a ≡ figured b → a ≡ b
+figured-one = answered-one tells _ _ (λ x y e. e)
 
-pub limited-one : (a b : Limited) → limited a ≡ limited b → a ≡ b
-limited-one (limiting.Done m d) (limiting.Done n s) e = ap₂ limiting.Done (ap (λ p. p.1) e) (ap (λ p. p.2) e)
-limited-one (limiting.Done m d) (limiting.Refused w) e = absurd (number-some w (sym (ap (λ p. p.0) e)))
-limited-one (limiting.Refused v) (limiting.Done n s) e = absurd (number-some v (ap (λ p. p.0) e))
-limited-one (limiting.Refused v) (limiting.Refused w) e = ap limiting.Refused (number-one v w (ap (λ p. p.0) e))
+pub limited-one : (a b : Result ChartLimits Refusal) → limited a ≡ limited b → a ≡ b
+limited-one (Ok m) (Ok n) e = ap₂ (λ (x y : Limits). Ok (record { main = x; dispersion = y })) (ap (λ p. p.1) e) (ap (λ p. p.2) e)
+limited-one (Ok m) (Err w) e = absurd (number-some w (sym (ap (λ p. p.0) e)))
+limited-one (Err v) (Ok n) e = absurd (number-some v (ap (λ p. p.0) e))
+limited-one (Err v) (Err w) e = ap (λ (y : Refusal). Err y) (number-one v w (ap (λ p. p.0) e))

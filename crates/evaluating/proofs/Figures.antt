@@ -1,5 +1,6 @@
 -- The sigma figures, from the centre line of the dispersion series or refused with it. Assumes nothing.
 use Rattle.std.proofs.Common.{◌≡◌, ℕ, Bool, false, cond, eqb, length, sym, refl, ap, ◌∙◌, ne_eqb}
+use Rattle.std.specs.Prelude.{Result, Ok, Err}
 use lib.Ieee.{Float}
 use Rattle.laws.proofs.Refusals.{Passed, were-passed}
 use Rattle.laws.specs.Bools.{every}
@@ -7,9 +8,7 @@ use Rattle.floats.specs.Values.{plus_zero}
 use Rattle.charts.specs.declared.Refusal.{Refusal}
 use Rattle.charts.specs.Records.{number, record_wrong}
 use Rattle.charts.proofs.Answers.{number-some}
-use Rattle.evaluating.specs.declared.Figure.{Figure}
-use Rattle.evaluating.specs.declared.Figure.TheVariants as figuring
-use Rattle.evaluating.specs.declared.Estimated.{Estimated}
+use Rattle.evaluating.specs.declared.SigmaFigures.{SigmaFigures}
 use Rattle.evaluating.specs.Asked.{Asked}
 use Rattle.evaluating.specs.Evaluating.{refusals}
 use Rattle.evaluating.specs.Sigma.{figured, estimated, sigma_number, unless_refused, sigma_hat_of, sigma_hat_df_of, estimate_of}
@@ -27,12 +26,12 @@ module _ (n : ℕ) where
   figure-done e {v} {u} is = ap (λ (w : Float). (0, w)) is ∙ sym (ap (λ (k : ℕ). (k, cond (eqb k 0) u plus_zero)) e)
 
   -- what a figure tells
-  module _ (v : Float) {f : Figure} (found : figured f ≡ unless_refused n v) where
-    pub was-refused : {why : Refusal} → f ≡ figuring.Refused why → n ≡ number why
+  module _ (v : Float) {f : Result Float Refusal} (found : figured f ≡ unless_refused n v) where
+    pub was-refused : {why : Refusal} → f ≡ Err why → n ≡ number why
     unfolding unless_refused
     was-refused is = sym (ap (λ (p : ℕ × Float). p.0) (sym (ap figured is) ∙ found))
 
-    module _ {m : Float} (is : f ≡ figuring.Done m) where
+    module _ {m : Float} (is : f ≡ Ok m) where
       told : (0, m) ≡ unless_refused n v
       told = sym (ap figured is) ∙ found
 
@@ -45,7 +44,7 @@ module _ (n : ℕ) where
       value-done = ap (λ (p : ℕ × Float). p.1) told ∙ ap (λ (k : ℕ). cond (eqb k 0) v plus_zero) was-done
 
 -- each of both
-module _ (a : Asked) (e : Estimated) (found : estimated e ≡ estimate_of a) where
+module _ (a : Asked) (e : Result SigmaFigures Refusal) (found : estimated e ≡ estimate_of a) where
   pub its-hat : ((estimated e).0, (estimated e).1) ≡ sigma_hat_of a
   unfolding estimate_of sigma_hat_of unless_refused
   its-hat = ap (λ (p : ℕ × Float × Float). (p.0, p.1)) found

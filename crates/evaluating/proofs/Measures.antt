@@ -1,6 +1,6 @@
 -- What is measured of a chart: the series at the front of their slices, and the limits by their means. Assumes nothing.
-use Rattle.std.proofs.Common.{◌≡◌, ℕ, ◌-◌, Bool, true, false, ◌&&◌, List, take, sym, refl, ap, ◌∙◌, ap₂, take_at}
-use native.Mathlib.Nat.{sub-zero}
+use Rattle.std.proofs.Common.{◌≡◌, ℕ, Bool, true, false, ◌&&◌, List, take, sym, refl, ap, ◌∙◌, ap₂, take_at}
+use Rattle.std.specs.Prelude.{Ok, Err}
 use lib.Ieee.{Float}
 use Rattle.laws.specs.Lists.{tabulate}
 use Rattle.laws.specs.Front.{at_front}
@@ -11,25 +11,23 @@ use Rattle.rules.specs.declared.Limits.{Limits}
 use Rattle.rules.specs.Finite.{finite_limits}
 use Rattle.arith.specs.Arith.{mean_of}
 use Rattle.arith.proofs.Means.{finite-mean}
-use Rattle.charts.specs.declared.Chart.{Chart}
-use Rattle.evaluating.specs.Asked.{Asked, interrupted, in_mode, stops_among}
+use Rattle.charts.specs.declared.Refusal.{Refusal}
+use Rattle.charts.specs.declared.Refusal.TheVariants.{Overflow}
+use Rattle.evaluating.specs.declared.ChartLimits.{ChartLimits}
+use Rattle.evaluating.specs.Asked.{Asked, interrupted, in_mode}
 use Rattle.evaluating.specs.Series.{by_series, point_at, points_in, series_of}
 use Rattle.evaluating.specs.Limits.{main_limits, dispersion_limits, centre_of, limits_of}
 use Rattle.evaluating.specs.Evaluating.{sound}
-use Rattle.evaluating.specs.Steps.{limits_from, measured}
+use Rattle.evaluating.specs.Steps.{unless_overflow, limits_from, measured}
 
 -- ---- a series at the front of its slice
 
 pub front-series : (a : Asked) (s n : ℕ) (old now : List Float) → n ≡ points_in a.chart s
-    → now ≡ at_front (series_of a s) old → take (n - 0) now ≡ series_of a s
+    → now ≡ at_front (series_of a s) old → take n now ≡ series_of a s
 unfolding series_of
 front-series a s n old now e f =
-    ap₂ (λ (k : ℕ) (l : List Float). take k l) (sub-zero n ∙ e) f
+    ap₂ (λ (k : ℕ) (l : List Float). take k l) e f
     ∙ take_at (tabulate (point_at a s) (points_in a.chart s)) _ (points_in a.chart s) (length-tabulate (point_at a s) (points_in a.chart s))
-
--- the stops at the front of the positions
-pub front-stops : (c : Chart) (positions : List ℕ) → take (c.stops - 0) positions ≡ stops_among c positions
-front-stops c positions = ap (λ (n : ℕ). take n positions) (sub-zero c.stops)
 
 -- ---- finite limits are those of finite points
 
@@ -59,12 +57,30 @@ module _ (a : Asked) where
 
   from-centres : limits_from a.chart (centre_of a 0) (centre_of a 1) ≡ measured a
   unfolding limits_from limits_of by_series
-  from-centres = ap (λ (b : Bool). record { main = limits_of a 0; dispersion = limits_of a 1; sound = b }) (sym sound-limits)
+  from-centres = ap (λ (b : Bool). unless_overflow b (limits_of a 0) (limits_of a 1)) (sym sound-limits)
 
   pub from-series : {main dispersion : List Float} → main ≡ series_of a 0 → dispersion ≡ series_of a 1
       → limits_from a.chart (mean_of main) (mean_of dispersion) ≡ measured a
   unfolding centre_of
   from-series m d = ap₂ (λ (l k : List Float). limits_from a.chart (mean_of l) (mean_of k)) m d ∙ from-centres
+
+-- ---- what measured limits tell, and what none do
+
+was-wild : (b : Bool) (main dispersion : Limits) {why : Refusal} → Err why ≡ unless_overflow b main dispersion → (b ≡ false) × (why ≡ Overflow)
+was-wild true main dispersion e = absurd cc
+was-wild false main dispersion e = (refl, cc)
+
+was-sound : (b : Bool) (main dispersion : Limits) {l : ChartLimits} → Ok l ≡ unless_overflow b main dispersion
+    → (b ≡ true) × (l ≡ record { main = main; dispersion = dispersion })
+was-sound true main dispersion e = (refl, cc)
+was-sound false main dispersion e = absurd cc
+
+module _ (a : Asked) where
+  pub wild : {why : Refusal} → Err why ≡ measured a → (sound a ≡ false) × (why ≡ Overflow)
+  wild e = was-wild (sound a) (limits_of a 0) (limits_of a 1) e
+
+  pub right : {l : ChartLimits} → Ok l ≡ measured a → (sound a ≡ true) × (l ≡ record { main = limits_of a 0; dispersion = limits_of a 1 })
+  right e = was-sound (sound a) (limits_of a 0) (limits_of a 1) e
 
 -- ---- stops and the width mode change neither the series nor what is measured of them: a moving range that straddles a stop counts towards
 -- the limits

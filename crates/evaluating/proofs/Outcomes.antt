@@ -2,6 +2,7 @@
 use Rattle.std.proofs.Common.{◌≡◌, ℕ, ◌+◌, ◌≤◌, Bool, true, false, cond, not, ◌&&◌, ◌||◌, eqb, ltb, List, length, take, drop, sym, refl, ap, ◌∙◌, ap₂, arith, ltb-false, le-ltb, eq-eqb, ne_eqb}
 use native.Mathlib.Decide.{ℕ_discrete}
 use borrow.Author.Tests.{not-true}
+use Rattle.std.specs.Prelude.{Result, Err}
 use lib.Ieee.{Float}
 use Rattle.laws.specs.Bools.{every}
 use Rattle.laws.specs.Refusals.{first_of}
@@ -24,8 +25,6 @@ use Rattle.charts.specs.Records.{number, record_wrong}
 use Rattle.charts.proofs.Answers.{number-some}
 use Rattle.charts.proofs.Cases.{kind_1, subgroups}
 use Rattle.charts.proofs.Held.{held}
-use Rattle.evaluating.specs.declared.checks.Tested.{Tested}
-use Rattle.evaluating.specs.declared.checks.Tested.TheVariants as testing
 use Rattle.evaluating.specs.Asked.{Asked, stops_among}
 use Rattle.evaluating.specs.Series.{points_in, series_of, moving_in}
 use Rattle.evaluating.specs.Limits.{limits_of}
@@ -111,7 +110,7 @@ module _ (a : Asked) (wrong bad_width short : Bool) where
 
   -- ---- refused ahead of 7
 
-  module _ {why : Refusal} {t : Tested} (is : t ≡ testing.Refused why) (found : tested t ≡ first_of (ahead a wrong bad_width short) 0) where
+  module _ {why : Refusal} {t : Result (Unit {0}) Refusal} (is : t ≡ Err why) (found : tested t ≡ first_of (ahead a wrong bad_width short) 0) where
     e : first_of (ahead a wrong bad_width short) 0 ≡ number why
     e = sym found ∙ ap tested is
 

@@ -1,16 +1,13 @@
 -- A point of a series: how far it reaches into the values, and its case. Assumes nothing.
-use Rattle.std.proofs.Common.{◌≡◌, ℕ, suc, ◌+◌, ◌-◌, ◌*◌, ◌<◌, ◌≤◌, Bool, true, false, cond, eqb, List, length, get_or, take, drop, sym, refl, ap, ◌∙◌, ap₂, le_trans, mul-le-mul_right, suc-mul, mul-le-mul_left, mul-one, arith, ne_eqb}
+use Rattle.std.proofs.Common.{◌≡◌, ℕ, suc, ◌+◌, ◌-◌, ◌*◌, ◌<◌, ◌≤◌, Bool, true, false, cond, eqb, length, refl, ◌∙◌, ap₂, le_trans, mul-le-mul_right, suc-mul, mul-le-mul_left, mul-one, arith, ne_eqb}
 use native.Mathlib.Decide.{ℕ_discrete}
-use native.Mathlib.Nat.{add-sub_cancel_left}
-use lib.Ieee.{Float, nan}
 use Rattle.laws.proofs.Lists.{length-tabulate}
 use Rattle.stops.specs.Stops.{main_points}
-use Rattle.arith.specs.Arith.{mean_of, range_of, deviation_of, moving_of}
 use Rattle.charts.specs.declared.Chart.{Chart}
 use Rattle.charts.specs.Records.{by_kind, record_wrong}
-use Rattle.charts.proofs.Cases.{kind_1, kind_2, kind_3, subgroups}
+use Rattle.charts.proofs.Cases.{kind_1, subgroups}
 use Rattle.charts.proofs.Held.{held}
-use Rattle.evaluating.specs.Asked.{Asked, asked, sample_at}
+use Rattle.evaluating.specs.Asked.{Asked}
 use Rattle.evaluating.specs.Series.{by_series, point_at, points_in, series_of, moving_in}
 
 -- ---- how many points
@@ -102,33 +99,3 @@ reach c s room i right h =
     let before : suc i ≤ c.count = omega (arith, points-most c s) in
     let ends : suc i * c.size ≤ room = le_trans (mul-le-mul_right c.size before) all.within in
     record { most = all.figures.most; sample = omega (arith, suc-mul i c.size) }
-
--- ---- the point, by kind
-
--- the sample as the code cuts it out
-abbrev cut_at : Chart → List Float → ℕ → List Float
-cut_at c values i = take (i * c.size + c.size - i * c.size) (drop (i * c.size) values)
-
-cut : (c : Chart) (values : List Float) (i : ℕ) → cut_at c values i ≡ sample_at (asked c values) i
-cut c values i = ap (λ (n : ℕ). take n (drop (i * c.size) values)) (add-sub_cancel_left (i * c.size) c.size)
-
-module _ (c : Chart) (values : List Float) (i : ℕ) {x : Float} where
-  pub main-1 : c.kind ≡ 1 → x ≡ get_or values i nan → x ≡ point_at (asked c values) 0 i
-  unfolding point_at by_series
-  main-1 e g = g ∙ sym (kind_1 c.kind _ _ _ e)
-
-  pub main-mean : (c.kind ≡ 1 → ⊥) → x ≡ mean_of (cut_at c values i) → x ≡ point_at (asked c values) 0 i
-  unfolding point_at by_series
-  main-mean ne g = g ∙ ap mean_of (cut c values i) ∙ sym (subgroups c.kind _ _ ne)
-
-  pub dispersion-1 : c.kind ≡ 1 → x ≡ moving_of (get_or values i nan) (get_or values (i + 1) nan) → x ≡ point_at (asked c values) 1 i
-  unfolding point_at by_series
-  dispersion-1 e g = g ∙ sym (kind_1 c.kind _ _ _ e)
-
-  pub dispersion-2 : (c.kind ≡ 1 → ⊥) → c.kind ≡ 2 → x ≡ range_of (cut_at c values i) → x ≡ point_at (asked c values) 1 i
-  unfolding point_at by_series
-  dispersion-2 ne e g = g ∙ ap range_of (cut c values i) ∙ sym (kind_2 c.kind _ _ _ ne e)
-
-  pub dispersion-3 : (c.kind ≡ 1 → ⊥) → (c.kind ≡ 2 → ⊥) → x ≡ deviation_of (cut_at c values i) → x ≡ point_at (asked c values) 1 i
-  unfolding point_at by_series
-  dispersion-3 ne nt g = g ∙ ap deviation_of (cut c values i) ∙ sym (kind_3 c.kind _ _ _ ne nt)

@@ -1,20 +1,20 @@
 -- The limits of a chart by its centre lines alone, the means of its two series: what evaluating works out from its points, and first-week
 -- limits (02, R-7) "afresh from those kept". Definitions only.
-use Rattle.std.specs.Prelude.{ℕ, not, ◌&&◌, [], ◌∷◌, Float}
+use Rattle.std.specs.Prelude.{ℕ, not, ◌&&◌, [], ◌∷◌, Float, Result, Ok, Err}
 use Rattle.laws.specs.Refusals.{first_of}
 use Rattle.rules.specs.declared.Limits.{Limits}
 use Rattle.rules.specs.Finite.{finite_limits}
 use Rattle.charts.specs.declared.Chart.{Chart}
 use Rattle.charts.specs.Records.{number, own_wrong}
-use Rattle.evaluating.specs.declared.Limited.{Limited}
-use Rattle.evaluating.specs.declared.Limited.TheVariants.{Done, Refused}
+use Rattle.charts.specs.declared.Refusal.{Refusal}
+use Rattle.evaluating.specs.declared.ChartLimits.{ChartLimits}
 use Rattle.evaluating.specs.Limits.{main_limits, dispersion_limits}
 use Rattle.evaluating.specs.Evaluating.{zero_limits}
 
 -- the number of each answer, and the limits of the main and of the dispersion series; a refusal's are zero
-abbrev pub limited : Limited → ℕ × Limits × Limits
-limited (Done main dispersion) = (0, main, dispersion)
-limited (Refused why) = (number why, zero_limits, zero_limits)
+abbrev pub limited : Result ChartLimits Refusal → ℕ × Limits × Limits
+limited (Ok limits) = (0, limits.main, limits.dispersion)
+limited (Err why) = (number why, zero_limits, zero_limits)
 
 -- 14 "with no slice", by the record's own numbers, and 7: "a computed .. limit is not finite"
 unfoldable pub limits_about : Chart → Float → Float → ℕ × Limits × Limits

@@ -1,6 +1,6 @@
 -- Evaluating: its answer, and what each lent slice then holds (01, 'The charts', last paragraph; 'Numbers a call may give back', rows 3, 6,
 -- 7 and 8, and Order; 02, R-1 and R-5: rows 15 and 21). Definitions only.
-use Rattle.std.specs.Prelude.{ℕ, ◌+◌, Bool, cond, not, ◌&&◌, ◌||◌, List, [], ◌∷◌, map, length, ◌==◌, nat_lt}
+use Rattle.std.specs.Prelude.{ℕ, ◌+◌, Bool, cond, not, ◌&&◌, ◌||◌, List, [], ◌∷◌, map, length, ◌==◌, nat_lt, Result, Ok, Err}
 use Rattle.laws.specs.Bools.{count}
 use Rattle.laws.specs.Refusals.{first_of}
 use Rattle.stops.specs.Stops.{stops_wrong}
@@ -13,8 +13,8 @@ use Rattle.rules.specs.Lines.{width_wrong}
 use Rattle.rules.specs.Terms.{under}
 use Rattle.rules.specs.Marking.{marks_of}
 use Rattle.charts.specs.declared.Chart.{Chart}
-use Rattle.evaluating.specs.declared.Evaluated.{Evaluated}
-use Rattle.evaluating.specs.declared.Evaluated.TheVariants.{Done, Refused}
+use Rattle.charts.specs.declared.Refusal.{Refusal}
+use Rattle.evaluating.specs.declared.Evaluation.{Evaluation}
 use Rattle.charts.specs.Records.{number, by_kind, record_wrong}
 use Rattle.evaluating.specs.Asked.{Asked, stored, stops_among}
 use Rattle.evaluating.specs.Series.{points_in, series_of, moving_in}
@@ -45,9 +45,9 @@ answer_done main dispersion marks = record {
 abbrev pub answer_refused : ℕ → Answer
 answer_refused n = record { number = n; main = zero_limits; dispersion = zero_limits; marks = 0; none_stands = (n == 8) }
 
-abbrev pub evaluated : Evaluated → Answer
-evaluated (Done e) = answer_done e.main e.dispersion e.marks
-evaluated (Refused why) = answer_refused (number why)
+abbrev pub evaluated : Result Evaluation Refusal → Answer
+evaluated (Ok e) = answer_done e.main e.dispersion e.marks
+evaluated (Err why) = answer_refused (number why)
 
 -- ---- "Evaluate: 14, 8, 6, 3 for stored values, 7.", with 15 "after 14 in evaluating" and 21 "after 14 and 15"
 

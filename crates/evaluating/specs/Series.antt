@@ -1,13 +1,13 @@
 -- The two series of a chart: series 0 is the main one, series 1 that of the dispersion (01, 'The charts'). Definitions only.
-use Rattle.std.specs.Prelude.{ℕ, ◌+◌, ◌-◌, Bool, true, false, cond, List, [], ◌∷◌, ◌==◌, slice_index_or, Float}
+use Rattle.std.specs.Prelude.{ℕ, ◌+◌, ◌-◌, Bool, true, false, cond, List, [], ◌∷◌, ◌==◌, slice_index_or, Float, Result, Ok, Err}
 use Rattle.std.specs.Float.{nan}
 use Rattle.laws.specs.Lists.{tabulate}
 use Rattle.laws.specs.Refusals.{first_of}
 use Rattle.arith.specs.Arith.{mean_of, range_of, deviation_of, moving_of}
 use Rattle.charts.specs.declared.Chart.{Chart}
 use Rattle.charts.specs.Records.{number, by_kind, own_wrong}
+use Rattle.charts.specs.declared.Refusal.{Refusal}
 use Rattle.evaluating.specs.declared.Lengths.{Lengths}
-use Rattle.evaluating.specs.declared.Lengths.TheVariants.{Done, Refused}
 use Rattle.evaluating.specs.Asked.{Asked, sample_at}
 
 -- one thing for each series
@@ -38,9 +38,9 @@ moving_in c s = by_series s false (by_kind c.kind true false false)
 -- ---- how many points there are
 
 -- the number of each answer, and how many points the main and the dispersion series have; a refusal's are zero
-abbrev pub lengths : Lengths → ℕ × ℕ × ℕ
-lengths (Done main dispersion) = (0, main, dispersion)
-lengths (Refused why) = (number why, 0, 0)
+abbrev pub lengths : Result Lengths Refusal → ℕ × ℕ × ℕ
+lengths (Ok points) = (0, points.main, points.dispersion)
+lengths (Err why) = (number why, 0, 0)
 
 -- 14 "with no slice": by the record's own numbers
 unfoldable pub points_of : Chart → ℕ × ℕ × ℕ

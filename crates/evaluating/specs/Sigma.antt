@@ -1,16 +1,15 @@
 -- The sigma figures (01, 'The charts': "by the source's formulas, in its order of operations"; Order: "Sigma figures: 14, 8, 3, 7, as
 -- evaluating would"). Definitions only.
-use Rattle.std.specs.Prelude.{ℕ, false, cond, ◌==◌, Float}
+use Rattle.std.specs.Prelude.{ℕ, false, cond, ◌==◌, Float, Result, Ok, Err}
 use Rattle.std.specs.Float.{binary64}
 use Rattle.std.specs.Float.Ieee.{add, sub, mul, div}
 use Rattle.laws.specs.Refusals.{first_of}
+use Rattle.numbers.specs.Numbers.{answered}
 use Rattle.floats.specs.Values.{plus_zero, whole, decimal}
 use Rattle.charts.specs.declared.Chart.{Chart}
 use Rattle.charts.specs.Records.{number, by_kind}
-use Rattle.evaluating.specs.declared.Figure.{Figure}
-use Rattle.evaluating.specs.declared.Figure.TheVariants.{Done, Refused}
-use Rattle.evaluating.specs.declared.Estimated.{Estimated}
-use Rattle.evaluating.specs.declared.Estimated.TheVariants as estimating
+use Rattle.charts.specs.declared.Refusal.{Refusal}
+use Rattle.evaluating.specs.declared.SigmaFigures.{SigmaFigures}
 use Rattle.evaluating.specs.Asked.{Asked}
 use Rattle.evaluating.specs.Factors.{factor_of, D4, D2, C4}
 use Rattle.evaluating.specs.Series.{points_in}
@@ -18,13 +17,12 @@ use Rattle.evaluating.specs.Limits.{factor_for, centre_of}
 use Rattle.evaluating.specs.Evaluating.{refusals}
 
 -- the number and the value that each answer stands for; a refusal's value is zero
-abbrev pub figured : Figure → ℕ × Float
-figured (Done v) = (0, v)
-figured (Refused why) = (number why, plus_zero)
+abbrev pub figured : Result Float Refusal → ℕ × Float
+figured = answered number (λ v. v) plus_zero
 
-abbrev pub estimated : Estimated → ℕ × Float × Float
-estimated (estimating.Done e) = (0, e.sigma_hat, e.sigma_hat_df)
-estimated (estimating.Refused why) = (number why, plus_zero, plus_zero)
+abbrev pub estimated : Result SigmaFigures Refusal → ℕ × Float × Float
+estimated (Ok e) = (0, e.sigma_hat, e.sigma_hat_df)
+estimated (Err why) = (number why, plus_zero, plus_zero)
 
 -- "14, 8, 3, 7, as evaluating would"
 unfoldable pub sigma_number : Asked → ℕ

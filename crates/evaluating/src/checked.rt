@@ -11,47 +11,10 @@ ghost use Rattle.evaluating.specs.Series.{series_of};
 ghost use Rattle.evaluating.specs.Evaluating.{evaluated, positions_wrong, no_room, series_marks, number_of, evaluate_of};
 ghost use Rattle.evaluating.specs.Steps.{ahead};
 
-use super::limits::Measured;
-use super::{Evaluated, Evaluation, lent, limits, marks, series};
+use super::series::Series;
+use super::{Evaluation, limits, marks, series};
 use charts::{Chart, INDIVIDUALS, Refusal};
-use sets::RuleSet;
-
-// Marks both series; `moving` says whether that of the dispersion is one of moving ranges.
-fn mark_both(
-    set: RuleSet,
-    w: Measured,
-    width: u64,
-    stops: &[usize],
-    moving: bool,
-    main: &[f64],
-    dispersion: &[f64],
-    main_marks: &mut [u16],
-    dispersion_marks: &mut [u16],
-) -> Evaluation
-    requires { (answer_of (under w.main width stops.now false) set.mask main.now (length main_marks.old) ≡ 0)
-        × (answer_of (under w.dispersion width stops.now moving) set.mask dispersion.now (length dispersion_marks.old) ≡ 0) }
-    ensures answer { result ≡ record {
-      main = w.main;
-      dispersion = w.dispersion;
-      marks = number_of (marks_of (under w.main width stops.now false) set.mask main.now)
-          + number_of (marks_of (under w.dispersion width stops.now moving) set.mask dispersion.now);
-    } }
-    ensures main_marks { main_marks.new
-        ≡ at_front (marks_of (under w.main width stops.now false) set.mask main.now) main_marks.old }
-    ensures dispersion_marks { dispersion_marks.new
-        ≡ at_front (marks_of (under w.dispersion width stops.now moving) set.mask dispersion.now) dispersion_marks.old }
-{
-    let a = w.main;
-    let b = w.dispersion;
-    let n = marks::mark(main, stops, false, a, width, set, main_marks);
-    let k = marks::mark(dispersion, stops, moving, b, width, set, dispersion_marks);
-    let marks = n + k;
-    Evaluation {
-        main: a,
-        dispersion: b,
-        marks: marks,
-    }
-}
+use rules::Terms;
 
 // Evaluates a chart that passed the tests ahead of the arithmetic.
 pub fn evaluate(
@@ -63,7 +26,7 @@ pub fn evaluate(
     dispersion: &mut [f64],
     main_marks: &mut [u16],
     dispersion_marks: &mut [u16],
-) -> Evaluated
+) -> Result<Evaluation, Refusal>
     requires { first_of (ahead (asked c values.now) (positions_wrong c positions.now) (width_wrong width)
         (no_room c (length main.old) (length dispersion.old) (length main_marks.old) (length dispersion_marks.old))) 0 ≡ 0 }
     ensures answer { evaluated result ≡ evaluate_of (in_mode (interrupted (asked c values.now) positions.now) width)
@@ -78,25 +41,32 @@ pub fn evaluate(
     ensures dispersion_marks { dispersion_marks.new
         ≡ lent_after (evaluated result).number 0 (series_marks (in_mode (interrupted (asked c values.now) positions.now) width) 1) dispersion_marks.old }
 {
-    let n = series::points_in(c, 0);
-    let k = series::points_in(c, 1);
-    let w = limits::measure(c, values, main, dispersion);
-    if !w.sound {
-        lent::zero_all(main, dispersion, main_marks, dispersion_marks);
-        return Evaluated::Refused(Refusal::Overflow);
+    let n = series::points_in(c, Series::Main);
+    let k = series::points_in(c, Series::Dispersion);
+    match limits::measure(c, values, main, dispersion) {
+        Err(why) => {
+            super::clear(main, dispersion, main_marks, dispersion_marks);
+            Err(why)
+        }
+        Ok(w) => {
+            let of_main = Terms {
+                limits: w.main,
+                width,
+                stops: &positions[..c.stops],
+                moving: false,
+            };
+            let of_dispersion = Terms {
+                limits: w.dispersion,
+                moving: c.kind == INDIVIDUALS,
+                ..of_main
+            };
+            let marks = marks::mark(&main[..n], of_main, c.set, main_marks);
+            let others = marks::mark(&dispersion[..k], of_dispersion, c.set, dispersion_marks);
+            Ok(Evaluation {
+                main: w.main,
+                dispersion: w.dispersion,
+                marks: marks + others,
+            })
+        }
     }
-    let set = c.set;
-    let counted = c.stops;
-    let moving = c.kind == INDIVIDUALS;
-    Evaluated::Done(mark_both(
-        set,
-        w,
-        width,
-        &positions[0..counted],
-        moving,
-        &main[0..n],
-        &dispersion[0..k],
-        main_marks,
-        dispersion_marks,
-    ))
 }

@@ -5,37 +5,33 @@ ghost use Rattle.evaluating.specs.Asked.{asked};
 ghost use Rattle.evaluating.specs.Evaluating.{positions_wrong, too_few, no_room};
 ghost use Rattle.evaluating.specs.Steps.{ahead, tested};
 
-use super::series;
-use charts::{Chart, INDIVIDUALS, Refusal};
-
-// What the tests find.
-#[derive(Clone, Copy)]
-pub enum Tested {
-    Passed,
-    Refused(Refusal),
-}
+use super::kinds::{Kind, kind_of};
+use super::series::{Series, points_in};
+use charts::{Chart, Refusal};
 
 // Whether the record counts more stops than there are positions, or these are no stops of the chart.
+#[tactic(auto, unfolding(crate::specs::Evaluating::positions_wrong, crate::specs::Series::points_in, crate::specs::Series::by_series))]
 pub fn positions_wrong(c: Chart, positions: &[usize]) -> bool
     ensures { result ≡ positions_wrong c positions.now }
 {
-    let n = c.stops;
-    if positions.len() < n {
-        return true;
+    match positions.get(0..c.stops) {
+        None => true,
+        Some(stops) => stops::wrong(stops, false, c.count),
     }
-    stops::wrong(&positions[0..n], false, c.count)
 }
 
+#[tactic(auto, unfolding(crate::specs::Evaluating::too_few, charts::specs::Records::by_kind))]
 fn too_few(c: Chart) -> bool
     ensures { result ≡ too_few c }
 {
-    if c.kind == INDIVIDUALS {
-        return c.count < 2;
+    match kind_of(c) {
+        Kind::Individuals => c.count < 2,
+        Kind::Ranges | Kind::Deviations => c.count < 1,
     }
-    c.count < 1
 }
 
 // Whether a lent slice is too short for its series.
+#[tactic(auto, unfolding(crate::specs::Evaluating::no_room))]
 pub fn no_room(
     c: Chart,
     main: usize,
@@ -45,33 +41,40 @@ pub fn no_room(
 ) -> bool
     ensures { result ≡ no_room c main dispersion main_marks dispersion_marks }
 {
-    let n = series::points_in(c, 0);
-    let k = series::points_in(c, 1);
+    let n = points_in(c, Series::Main);
+    let k = points_in(c, Series::Dispersion);
     (main < n) | (main_marks < n) | (dispersion < k) | (dispersion_marks < k)
 }
 
 // 14, 15 where positions are wrong, 21 where the width mode is, 8, 6 where a lent slice is too short, and 3.
-pub fn check(c: Chart, values: &[f64], wrong: bool, bad_width: bool, short: bool) -> Tested
+#[tactic(auto, unfolding(laws::specs::Refusals::first_of))]
+pub fn check(
+    c: Chart,
+    values: &[f64],
+    wrong: bool,
+    bad_width: bool,
+    short: bool,
+) -> Result<(), Refusal>
     ensures { tested result ≡ first_of (ahead (asked c values.now) wrong bad_width short) 0 }
 {
     if c.record_wrong(values.len()) {
-        return Tested::Refused(Refusal::Record);
+        return Err(Refusal::Record);
     }
     if wrong {
-        return Tested::Refused(Refusal::Stops);
+        return Err(Refusal::Stops);
     }
     if bad_width {
-        return Tested::Refused(Refusal::WidthMode);
+        return Err(Refusal::WidthMode);
     }
     if too_few(c) {
-        return Tested::Refused(Refusal::TooFew);
+        return Err(Refusal::TooFew);
     }
     if short {
-        return Tested::Refused(Refusal::TooShort);
+        return Err(Refusal::TooShort);
     }
     let end = c.count * c.size;
     if !floats::all_finite(&values[0..end]) {
-        return Tested::Refused(Refusal::NotFinite);
+        return Err(Refusal::NotFinite);
     }
-    Tested::Passed
+    Ok(())
 }

@@ -1,23 +1,20 @@
 // The factors of the charts, copied from the source.
-ghost use Rattle.std.specs.Prelude.{◌≡◌, ◌<◌, ◌≤◌};
+ghost use Rattle.std.specs.Prelude.{◌≡◌, ◌≤◌};
 ghost use Rattle.evaluating.specs.Factors.{factor_of};
+ghost use Rattle.evaluating.specs.Steps.{row_of};
 
-// The rows.
-pub const A2: usize = 0;
-
-pub const D3: usize = 1;
-
-pub const D4: usize = 2;
-
-pub const D2: usize = 3;
-
-pub const A3: usize = 4;
-
-pub const B3: usize = 5;
-
-pub const B4: usize = 6;
-
-pub const C4: usize = 7;
+// The factors, in the order of their rows.
+#[derive(Clone, Copy)]
+pub enum Factor {
+    A2,
+    D3,
+    D4,
+    D2,
+    A3,
+    B3,
+    B4,
+    C4,
+}
 
 // A column is for the size of its number plus 2.
 const FACTORS: [[f64; 24]; 8] = [
@@ -78,11 +75,19 @@ const FACTORS: [[f64; 24]; 8] = [
     ],
 ];
 
-// The factor of a row for subgroups of a size.
-pub fn factor(row: usize, size: usize) -> f64
-    requires { (row < 8) × (2 ≤ size) × (size ≤ 25) }
-    ensures { result ≡ factor_of row size }
-{
-    let column = size - 2;
-    FACTORS[row][column]
+impl Factor {
+    // Its row.
+    fn row(self) -> usize
+        ensures { result ≡ row_of self }
+    {
+        self as usize
+    }
+
+    // The factor for subgroups of a size.
+    pub fn of_size(self, size: usize) -> f64
+        requires { (2 ≤ size) × (size ≤ 25) }
+        ensures { result ≡ factor_of (row_of self) size }
+    {
+        FACTORS[self.row()][size - 2]
+    }
 }

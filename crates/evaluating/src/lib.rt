@@ -1,10 +1,11 @@
-// Evaluating a chart, and the sigma figures.
+// Evaluating a chart, and the sigma figures. The four lent slices are parameters of their own: what a struct's references leave behind
+// them a contract could only name by places in nested pairs.
 #![tactic(auto)]
 
 mod checked;
 mod checks;
 mod factors;
-mod lent;
+mod kinds;
 mod limits;
 mod marks;
 mod series;
@@ -15,25 +16,34 @@ ghost use Rattle.laws.specs.Front.{lent_after};
 ghost use Rattle.floats.specs.Values.{plus_zero};
 ghost use Rattle.evaluating.specs.Asked.{asked, interrupted, in_mode};
 ghost use Rattle.evaluating.specs.Series.{series_of, lengths, points_of};
-ghost use Rattle.evaluating.specs.Evaluating.{evaluated, no_room, evaluate_of, series_marks};
+ghost use Rattle.evaluating.specs.Evaluating.{answer_done, evaluated, no_room, evaluate_of, series_marks};
 ghost use Rattle.evaluating.specs.Centres.{limited, limits_about};
 ghost use Rattle.evaluating.specs.Sigma.{figured, estimated, sigma_hat_of, sigma_hat_df_of, estimate_of};
 
 use charts::{Chart, Refusal};
-use checks::Tested;
 use rules::{Limits, OWN_WIDTHS};
+use series::Series;
 
-/// What [`points`] answers.
-#[derive(Clone, Copy)]
-pub enum Lengths {
-    /// How many points the main and the dispersion series have (0).
-    Done { main: usize, dispersion: usize },
-    /// There are no series.
-    Refused(Refusal),
+/// How many points each series of a chart has.
+#[derive(Clone, Copy, Debug, PartialEq, Eq)]
+pub struct Lengths {
+    /// How many points the main series has.
+    pub main: usize,
+    /// How many points the dispersion series has.
+    pub dispersion: usize,
+}
+
+/// The limits of both series.
+#[derive(Clone, Copy, Debug, PartialEq)]
+pub struct ChartLimits {
+    /// The limits of the main series.
+    pub main: Limits,
+    /// The limits of the dispersion series.
+    pub dispersion: Limits,
 }
 
 /// What evaluating finds.
-#[derive(Clone, Copy)]
+#[derive(Clone, Copy, Debug, PartialEq)]
 pub struct Evaluation {
     /// The limits of the main series.
     pub main: Limits,
@@ -43,26 +53,8 @@ pub struct Evaluation {
     pub marks: usize,
 }
 
-/// What [`evaluate`] answers.
-#[derive(Clone, Copy)]
-pub enum Evaluated {
-    /// The limits and the number of marks (0).
-    Done(Evaluation),
-    /// There are none.
-    Refused(Refusal),
-}
-
-/// What [`limits_about`] answers.
-#[derive(Clone, Copy)]
-pub enum Limited {
-    /// The limits of both series (0).
-    Done { main: Limits, dispersion: Limits },
-    /// There are none.
-    Refused(Refusal),
-}
-
 /// The sigma figures.
-#[derive(Clone, Copy)]
+#[derive(Clone, Copy, Debug, PartialEq)]
 pub struct SigmaFigures {
     /// That of [`sigma_hat`].
     pub sigma_hat: f64,
@@ -70,128 +62,46 @@ pub struct SigmaFigures {
     pub sigma_hat_df: f64,
 }
 
-/// What [`estimate`] answers.
-#[derive(Clone, Copy)]
-pub enum Estimated {
-    /// Both figures (0).
-    Done(SigmaFigures),
-    /// There are none.
-    Refused(Refusal),
-}
-
-/// What [`sigma_hat`] and [`sigma_hat_df`] answer.
-#[derive(Clone, Copy)]
-pub enum Figure {
-    /// The figure (0).
-    Done(f64),
-    /// There is none.
-    Refused(Refusal),
-}
-
-impl Lengths {
-    /// 01's number of the answer.
+impl Evaluation {
+    /// Whether no mark stands, in either series.
     ///
-    /// `Lengths::Done { main: 3, dispersion: 2 }.number()` is 0.
-    pub fn number(self) -> u8
-        ensures { result ≡ (lengths self).0 }
-    {
-        match self {
-            Lengths::Done {
-                main: _,
-                dispersion: _,
-            } => 0,
-            Lengths::Refused(why) => why.number(),
-        }
-    }
-}
-
-impl Limited {
-    /// 01's number of the answer.
-    ///
-    /// `Limited::Refused(Refusal::Overflow).number()` is 7.
-    pub fn number(self) -> u8
-        ensures { result ≡ (limited self).0 }
-    {
-        match self {
-            Limited::Done {
-                main: _,
-                dispersion: _,
-            } => 0,
-            Limited::Refused(why) => why.number(),
-        }
-    }
-}
-
-impl Estimated {
-    /// 01's number of the answer.
-    ///
-    /// `Estimated::Refused(Refusal::Record).number()` is 14.
-    pub fn number(self) -> u8
-        ensures { result ≡ (estimated self).0 }
-    {
-        match self {
-            Estimated::Done(_) => 0,
-            Estimated::Refused(why) => why.number(),
-        }
-    }
-}
-
-impl Figure {
-    /// 01's number of the answer.
-    ///
-    /// `Figure::Done(0.5).number()` is 0.
-    pub fn number(self) -> u8
-        ensures { result ≡ (figured self).0 }
-    {
-        match self {
-            Figure::Done(_) => 0,
-            Figure::Refused(why) => why.number(),
-        }
-    }
-}
-
-impl Evaluated {
-    /// 01's number of the answer.
-    ///
-    /// `Evaluated::Refused(Refusal::TooFew).number()` is 8.
-    pub fn number(self) -> u8
-        ensures { result ≡ (evaluated self).number }
-    {
-        match self {
-            Evaluated::Done(_) => 0,
-            Evaluated::Refused(why) => why.number(),
-        }
-    }
-
-    /// Whether no mark stands, in either series. A refusal says so where there is too little to evaluate (8), and no other
-    /// refusal does.
-    ///
-    /// `Evaluated::Refused(Refusal::TooFew).none_stands()` is `true`.
+    /// Of an evaluation with 3 marks it is `false`.
     pub fn none_stands(self) -> bool
-        ensures { result ≡ (evaluated self).none_stands }
+        ensures { result ≡ (answer_done self.main self.dispersion self.marks).none_stands }
     {
-        match self {
-            Evaluated::Done(e) => e.marks == 0,
-            Evaluated::Refused(why) => why.number() == 8,
-        }
+        self.marks == 0
+    }
+}
+
+/// Whether an answer of [`evaluate`] says that no mark stands, in either series. A refusal says so where there is too little to
+/// evaluate (8), and no other refusal does.
+///
+/// Of `Err(Refusal::TooFew)` it is `true`.
+pub fn none_stands(answer: Result<Evaluation, Refusal>) -> bool
+    ensures { result ≡ (evaluated answer).none_stands }
+{
+    match answer {
+        Ok(e) => e.none_stands(),
+        Err(why) => why == Refusal::TooFew,
     }
 }
 
 /// How many points each series of a chart has, and so how long the slices have to be that evaluating is lent.
 ///
-/// Gives `Done` with both numbers. Refuses a record that is no chart, by its own numbers (14, `Record`).
+/// Gives `Ok` with both numbers. Refuses a record that is no chart, by its own numbers (14, `Record`).
 ///
-/// Of a chart of kind 1 with three observations it is `Lengths::Done { main: 3, dispersion: 2 }`.
-pub fn points(chart: Chart) -> Lengths
+/// Of a chart of kind 1 with three observations it is `Ok(Lengths { main: 3, dispersion: 2 })`.
+#[tactic(auto, unfolding(crate::specs::Series::points_of, laws::specs::Refusals::first_of))]
+pub fn points(chart: Chart) -> Result<Lengths, Refusal>
     ensures { lengths result ≡ points_of chart }
 {
     if chart.own_wrong() {
-        return Lengths::Refused(Refusal::Record);
+        return Err(Refusal::Record);
     }
-    Lengths::Done {
-        main: series::points_in(chart, 0),
-        dispersion: series::points_in(chart, 1),
-    }
+    Ok(Lengths {
+        main: series::points_in(chart, Series::Main),
+        dispersion: series::points_in(chart, Series::Dispersion),
+    })
 }
 
 /// Evaluates a chart: writes the two series and the marks of their points to the front of the lent slices, main
@@ -222,7 +132,7 @@ pub fn evaluate(
     dispersion: &mut [f64],
     main_marks: &mut [u16],
     dispersion_marks: &mut [u16],
-) -> Evaluated
+) -> Result<Evaluation, Refusal>
     ensures answer { evaluated result ≡ evaluate_of (in_mode (interrupted (asked chart values.now) positions.now) width)
         (no_room chart (length main.old) (length dispersion.old)
         (length main_marks.old) (length dispersion_marks.old)) }
@@ -243,45 +153,35 @@ pub fn evaluate(
         dispersion_marks.len(),
     );
     let wrong = checks::positions_wrong(chart, positions);
-    match checks::check(chart, values, wrong, OWN_WIDTHS < width, short) {
-        Tested::Refused(why) => Evaluated::Refused(why),
-        Tested::Passed => checked::evaluate(
-            chart,
-            values,
-            positions,
-            width,
-            main,
-            dispersion,
-            main_marks,
-            dispersion_marks,
-        ),
-    }
+    checks::check(chart, values, wrong, OWN_WIDTHS < width, short)?;
+    checked::evaluate(
+        chart,
+        values,
+        positions,
+        width,
+        main,
+        dispersion,
+        main_marks,
+        dispersion_marks,
+    )
 }
 
 /// The limits of a chart by its centre lines alone: `main` is the mean of the main series, `dispersion` that of the dispersion
 /// series. They are those that evaluating gives to a chart whose series have these means.
 ///
-/// Gives `Done` with the limits of both series. Refuses, in this order: a record that is no chart, by its own numbers (14,
+/// Gives `Ok` with the limits of both series. Refuses, in this order: a record that is no chart, by its own numbers (14,
 /// `Record`), limits that are not all finite (7, `Overflow`).
 ///
 /// Of a chart of kind 2 and size 2, `limits_about(chart, 5.0, 1.0)` has 6.88, 5.0 and 3.12 for the means, by the factor 1.88,
 /// and 3.267, 1.0 and 0.0 for the ranges.
-pub fn limits_about(chart: Chart, main: f64, dispersion: f64) -> Limited
+#[tactic(auto, unfolding(crate::specs::Centres::limits_about, crate::specs::Steps::limits_from, laws::specs::Refusals::first_of))]
+pub fn limits_about(chart: Chart, main: f64, dispersion: f64) -> Result<ChartLimits, Refusal>
     ensures { limited result ≡ limits_about chart main dispersion }
 {
     if chart.own_wrong() {
-        return Limited::Refused(Refusal::Record);
+        return Err(Refusal::Record);
     }
-    let w = limits::limits_from(chart, main, dispersion);
-    if !w.sound {
-        return Limited::Refused(Refusal::Overflow);
-    }
-    let a = w.main;
-    let b = w.dispersion;
-    Limited::Done {
-        main: a,
-        dispersion: b,
-    }
+    limits::limits_from(chart, main, dispersion)
 }
 
 /// Makes the four slices that evaluating is lent zero throughout, as evaluating does at 7.
@@ -298,54 +198,49 @@ pub fn clear(
     ensures main_marks { main_marks.new ≡ replicate (length main_marks.old) 0 }
     ensures dispersion_marks { dispersion_marks.new ≡ replicate (length dispersion_marks.old) 0 }
 {
-    lent::zero_all(main, dispersion, main_marks, dispersion_marks);
+    main.fill(0.0);
+    dispersion.fill(0.0);
+    main_marks.fill(0);
+    dispersion_marks.fill(0);
 }
 
 /// Both sigma figures of a chart, the values being measured once.
 ///
-/// Gives `Done` with [`sigma_hat`]'s and [`sigma_hat_df`]'s figure. Refuses as they do.
+/// Gives `Ok` with [`sigma_hat`]'s and [`sigma_hat_df`]'s figure. Refuses as they do.
 ///
 /// Of three observations of 0.1 they are 0.0 and 1.24.
-pub fn estimate(chart: Chart, values: &[f64]) -> Estimated
+pub fn estimate(chart: Chart, values: &[f64]) -> Result<SigmaFigures, Refusal>
     ensures { estimated result ≡ estimate_of (asked chart values.now) }
 {
-    match sigma::centre(chart, values) {
-        Figure::Refused(why) => Estimated::Refused(why),
-        Figure::Done(mean) => Estimated::Done(SigmaFigures {
-            sigma_hat: sigma::sigma_from(chart, mean),
-            sigma_hat_df: sigma::df_of(chart),
-        }),
-    }
+    let mean = sigma::centre(chart, values)?;
+    Ok(SigmaFigures {
+        sigma_hat: sigma::sigma_from(chart, mean),
+        sigma_hat_df: sigma::df_of(chart),
+    })
 }
 
 /// The estimate of sigma: the dispersion series' centre line, divided by D2 (moving ranges by that of 2, ranges by that
 /// of the size) or by C4 (deviations).
 ///
-/// Gives `Done` with the figure. Refuses as evaluating would, in this order: a record that is no chart (14, `Record`), no
+/// Gives `Ok` with the figure. Refuses as evaluating would, in this order: a record that is no chart (14, `Record`), no
 /// subgroup or fewer than 2 observations (8, `TooFew`), stored values that are not all finite (3, `NotFinite`), points
 /// or limits that are not all finite (7, `Overflow`).
 ///
 /// Of three observations of 0.1 it is 0.0: their moving ranges are.
-pub fn sigma_hat(chart: Chart, values: &[f64]) -> Figure
+pub fn sigma_hat(chart: Chart, values: &[f64]) -> Result<f64, Refusal>
     ensures { figured result ≡ sigma_hat_of (asked chart values.now) }
 {
-    match estimate(chart, values) {
-        Estimated::Refused(why) => Figure::Refused(why),
-        Estimated::Done(both) => Figure::Done(both.sigma_hat),
-    }
+    Ok(estimate(chart, values)?.sigma_hat)
 }
 
 /// The degrees of freedom of [`sigma_hat`]: 0.62 for each moving range, and for subgroups David's
 /// approximation from D4 or C4 and the number of subgroups.
 ///
-/// Gives `Done` with the figure. Refuses as [`sigma_hat`] does.
+/// Gives `Ok` with the figure. Refuses as [`sigma_hat`] does.
 ///
 /// Of three observations of 0.1 it is 1.24.
-pub fn sigma_hat_df(chart: Chart, values: &[f64]) -> Figure
+pub fn sigma_hat_df(chart: Chart, values: &[f64]) -> Result<f64, Refusal>
     ensures { figured result ≡ sigma_hat_df_of (asked chart values.now) }
 {
-    match estimate(chart, values) {
-        Estimated::Refused(why) => Figure::Refused(why),
-        Estimated::Done(both) => Figure::Done(both.sigma_hat_df),
-    }
+    Ok(estimate(chart, values)?.sigma_hat_df)
 }

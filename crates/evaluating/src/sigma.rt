@@ -1,58 +1,58 @@
 // The sigma figures.
-ghost use Rattle.std.specs.Prelude.{◌≡◌, false, length};
+ghost use Rattle.std.specs.Prelude.{◌≡◌, ◌≤◌, false, length};
 ghost use Rattle.charts.specs.Records.{own_wrong, record_wrong};
 ghost use Rattle.evaluating.specs.Asked.{asked};
 ghost use Rattle.evaluating.specs.Limits.{centre_of};
 ghost use Rattle.evaluating.specs.Sigma.{figured, sigma_number, unless_refused, sigma_from, equivalent_df, range_cv2, deviation_cv2, df_of};
 ghost use Rattle.evaluating.specs.Steps.{measured};
 
-use super::checks::Tested;
-use super::limits::Measured;
-use super::{Figure, checks, factors, limits, series};
-use charts::{Chart, INDIVIDUALS, Refusal, X_BAR_R};
+use super::factors::Factor;
+use super::kinds::{Kind, kind_of};
+use super::series::{Series, points_in};
+use super::{ChartLimits, checks, limits};
+use charts::{Chart, Refusal};
 use rules::MOST;
 
 // So many points have rooms of their own, which take less to clear.
 const FEW: usize = 128;
 
-// The limits of both series, which nobody keeps.
-fn measure(c: Chart, values: &[f64]) -> Measured
+// The limits of both series, measured in rooms for so many points that nobody keeps.
+fn measure_in<const ROOM: usize>(c: Chart, values: &[f64]) -> Result<ChartLimits, Refusal>
+    requires { (record_wrong c (length values.now) ≡ false) × (c.count ≤ ROOM) × (ROOM ≤ 4096) }
+    ensures { result ≡ measured (asked c values.now) }
+{
+    let mut main = [0.0f64; ROOM];
+    let mut dispersion = [0.0f64; ROOM];
+    limits::measure(c, values, &mut main, &mut dispersion)
+}
+
+// The limits of both series.
+fn measure(c: Chart, values: &[f64]) -> Result<ChartLimits, Refusal>
     requires { record_wrong c (length values.now) ≡ false }
     ensures { result ≡ measured (asked c values.now) }
 {
     if c.count <= FEW {
-        let mut main = [0.0f64; FEW];
-        let mut dispersion = [0.0f64; FEW];
-        return limits::measure(c, values, &mut main[0..FEW], &mut dispersion[0..FEW]);
+        return measure_in::<FEW>(c, values);
     }
-    let mut main = [0.0f64; MOST];
-    let mut dispersion = [0.0f64; MOST];
-    limits::measure(c, values, &mut main[0..MOST], &mut dispersion[0..MOST])
+    measure_in::<MOST>(c, values)
 }
 
 // The dispersion series' centre line, from which both figures are made, or why there is none.
-pub fn centre(c: Chart, values: &[f64]) -> Figure
+pub fn centre(c: Chart, values: &[f64]) -> Result<f64, Refusal>
     ensures { figured result
         ≡ unless_refused (sigma_number (asked c values.now)) (centre_of (asked c values.now) 1) }
 {
-    match checks::check(c, values, false, false, false) {
-        Tested::Refused(why) => Figure::Refused(why),
-        Tested::Passed => {
-            let w = measure(c, values);
-            if !w.sound {
-                return Figure::Refused(Refusal::Overflow);
-            }
-            Figure::Done(w.dispersion.cl)
-        }
-    }
+    checks::check(c, values, false, false, false)?;
+    Ok(measure(c, values)?.dispersion.cl)
 }
 
 // The estimate of sigma, from the mean of the dispersion series.
+#[tactic(auto, unfolding(crate::specs::Sigma::sigma_from))]
 pub fn sigma_from(c: Chart, mean: f64) -> f64
     requires { own_wrong c ≡ false }
     ensures { result ≡ sigma_from c mean }
 {
-    mean / limits::factor_for(c, factors::factor(factors::D2, 2), factors::D2, factors::C4)
+    mean / limits::factor_for(c, Factor::D2.of_size(2), Factor::D2, Factor::C4)
 }
 
 fn equivalent_df(cv2: f64) -> f64
@@ -80,12 +80,10 @@ pub fn df_of(c: Chart) -> f64
     requires { own_wrong c ≡ false }
     ensures { result ≡ df_of c }
 {
-    let n = std::num::nearest_u64_to_f64(series::points_in(c, 1) as u64);
-    if c.kind == INDIVIDUALS {
-        return 0.62 * n;
+    let n = std::num::nearest_u64_to_f64(points_in(c, Series::Dispersion) as u64);
+    match kind_of(c) {
+        Kind::Individuals => 0.62 * n,
+        Kind::Ranges => equivalent_df(range_cv2(Factor::D4.of_size(c.size), n)),
+        Kind::Deviations => equivalent_df(deviation_cv2(Factor::C4.of_size(c.size), n)),
     }
-    if c.kind == X_BAR_R {
-        return equivalent_df(range_cv2(factors::factor(factors::D4, c.size), n));
-    }
-    equivalent_df(deviation_cv2(factors::factor(factors::C4, c.size), n))
 }

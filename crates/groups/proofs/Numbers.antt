@@ -11,8 +11,7 @@ use lib.ListN.{length, drop, get_or}
 use lib.Seq.{drop-append_seam, drop-cons, drop-drop, drop-length}
 use lib.Dec.{ltb, eqb}
 use borrow.Author.Tests.{lt-ltb, le-ltb, ltb-true, ltb-false, eqb-true, eqb-false}
-use Rattle.groups.specs.declared.Reading.TheVariants.{Number, Fault}
-use Rattle.groups.specs.Groups.{groups, Front, some, none, before, front, read_as, number_at}
+use Rattle.groups.specs.Groups.{groups, Front, some, none, before, front, read_as, found, number_at, number_is, fault_is}
 use Rattle.groups.proofs.Strings.{by-groups, groups-one, groups-more, before-some, before-zero, front-one, front-more}
 
 -- every entry is a byte
@@ -73,15 +72,15 @@ front-string (b ∷ bs) v n h e = string-by b bs v n (ltb b 128) refl (h 0) e (�
 
 -- ---- at a place
 
-pub read_some : (at v n : ℕ) → v < 2 ^ 64 → read_as at (some v n) ≡ Number v (at + n)
+pub read_some : (at v n : ℕ) → v < 2 ^ 64 → read_as at (some v n) ≡ number_is v (at + n)
 read_some at v n h = simp (lt-ltb v (2 ^ 64) h)
 
-pub read-over : (at v n : ℕ) → 2 ^ 64 ≤ v → read_as at (some v n) ≡ Fault at
+pub read-over : (at v n : ℕ) → 2 ^ 64 ≤ v → read_as at (some v n) ≡ fault_is at
 read-over at v n h = simp (le-ltb v (2 ^ 64) h)
 
 -- What is written is read back, wherever it stands and whatever follows: the number, and the place just past it.
 pub read-written : (x : ℕ) → x < 2 ^ 64 → (ahead rest : List ℕ)
-    → number_at (ahead ++ (groups x ++ rest)) (length ahead) ≡ Number x (length ahead + length (groups x))
+    → number_at (ahead ++ (groups x ++ rest)) (length ahead) ≡ number_is x (length ahead + length (groups x))
 unfolding number_at
 read-written x h ahead rest =
     ap (λ (s : List ℕ). read_as (length ahead) (front s)) (drop-append_seam ahead (groups x ++ rest))
@@ -90,7 +89,7 @@ read-written x h ahead rest =
 
 -- The same, told what the bytes are from the place on.
 pub read-there : (s : List ℕ) (at x : ℕ) (rest : List ℕ) → x < 2 ^ 64 → drop at s ≡ groups x ++ rest
-    → number_at s at ≡ Number x (at + length (groups x))
+    → number_at s at ≡ number_is x (at + length (groups x))
 unfolding number_at
 read-there s at x rest h e =
     ap (λ (l : List ℕ). read_as at (front l)) e
@@ -98,16 +97,16 @@ read-there s at x rest h e =
     ∙ read_some at x (length (groups x)) h
 
 -- A byte below 128 is a number by itself.
-pub read_one : (s : List ℕ) (at : ℕ) → at < length s → get_or s at 0 < 128 → number_at s at ≡ Number (get_or s at 0) (at + 1)
+pub read_one : (s : List ℕ) (at : ℕ) → at < length s → get_or s at 0 < 128 → number_at s at ≡ number_is (get_or s at 0) (at + 1)
 read_one s at h low =
     let b = get_or s at 0 in
     read-there s at b (drop (suc at) s) (omega arith) (drop-cons s at 0 h ∙ ap (λ (g : List ℕ). g ++ drop (suc at) s) (sym (groups-one b low)))
-    ∙ ap (λ (g : List ℕ). Number b (at + length g)) (groups-one b low)
+    ∙ ap (λ (g : List ℕ). number_is b (at + length g)) (groups-one b low)
 
 -- A byte from 128 on and a second one below, which is not zero, are a number of two groups.
 pub read-two : (s : List ℕ) (at : ℕ) → at + 1 < length s → 128 ≤ get_or s at 0 → get_or s at 0 < 256
     → (get_or s (at + 1) 0 ≡ 0 → ⊥) → get_or s (at + 1) 0 < 128
-    → number_at s at ≡ Number (get_or s at 0 % 128 + get_or s (at + 1) 0 * 128) (at + 2)
+    → number_at s at ≡ number_is (get_or s at 0 % 128 + get_or s (at + 1) 0 * 128) (at + 2)
 read-two s at h more byte nz low =
     let b = get_or s at 0 in
     let t = get_or s (at + 1) 0 in
@@ -121,7 +120,7 @@ read-two s at h more byte nz low =
     drop-cons s at 0 (omega arith)
     ∙ ap (λ (l : List ℕ). b ∷ l) (ap (λ (j : ℕ). drop j s) next ∙ drop-cons s (at + 1) 0 h) in
     read-there s at x (drop (suc (at + 1)) s) (omega arith) (there ∙ ap (λ (g : List ℕ). g ++ drop (suc (at + 1)) s) (sym string))
-    ∙ ap (λ (g : List ℕ). Number x (at + length g)) string
+    ∙ ap (λ (g : List ℕ). number_is x (at + length g)) string
 
 -- The number v stands at the place `at`: it has at most 64 bits, its one string starts there, and `next` is just past it.
 pub record Stands (s : List ℕ) (at v next : ℕ) : Type 0 where
@@ -129,19 +128,19 @@ pub record Stands (s : List ℕ) (at v next : ℕ) : Type 0 where
   pub past : next ≡ at + length (groups v)
   pub string : drop at s ≡ groups v ++ drop next s
 
-pub not-number : {A : Type 0} {at v next : ℕ} → Fault at ≡ Number v next → A
+pub not-number : {A : Type 0} {at v next : ℕ} → fault_is at ≡ number_is v next → A
 not-number {A} {at} {v} {next} e = absurd (let z : ◌≡◌ {A = ℕ} 0 1 = cc in omega arith)
 
-stands_by : (s : List ℕ) (at v next : ℕ) → Bytes (drop at s) → (r : Front) → front (drop at s) ≡ r → read_as at r ≡ Number v next → Stands s at v next
+stands_by : (s : List ℕ) (at v next : ℕ) → Bytes (drop at s) → (r : Front) → front (drop at s) ≡ r → read_as at r ≡ number_is v next → Stands s at v next
 stands_by s at v next h none f e = not-number e
 stands_by s at v next h (some w n) f e = by (ltb w (2 ^ 64)) refl
   where
     by : (t : Bool) → ltb w (2 ^ 64) ≡ t → Stands s at v next
     by false t = not-number (sym (read-over at w n (ltb-false w (2 ^ 64) t)) ∙ e)
     by true t =
-        let g : Number w (at + n) ≡ Number v next = sym (read_some at w n (ltb-true w (2 ^ 64) t)) ∙ e in
-        let value : w ≡ v = cc in
-        let place : at + n ≡ next = cc in
+        let g : number_is w (at + n) ≡ number_is v next = sym (read_some at w n (ltb-true w (2 ^ 64) t)) ∙ e in
+        let value : w ≡ v = ap (λ r. (found r).1) g in
+        let place : at + n ≡ next = ap (λ r. (found r).2) g in
         let string : drop at s ≡ groups w ++ drop n (drop at s) = front-string (drop at s) w n h f in
         let again : some w n ≡ some w (length (groups w)) =
         sym f ∙ ap front string ∙ front-written (drop n (drop at s)) w in
@@ -153,7 +152,7 @@ stands_by s at v next h (some w n) f e = by (ltb w (2 ^ 64)) refl
         }
 
 -- Whatever is read is the one string of its value.
-pub written_read : (s : List ℕ) (at v next : ℕ) → Bytes (drop at s) → number_at s at ≡ Number v next → Stands s at v next
+pub written_read : (s : List ℕ) (at v next : ℕ) → Bytes (drop at s) → number_at s at ≡ number_is v next → Stands s at v next
 unfolding number_at
 written_read s at v next h e = stands_by s at v next h (front (drop at s)) refl e
 
@@ -168,7 +167,7 @@ no-beginning x y r t e =
     )
 
 -- Each number has exactly one string: bytes that are read as v and nothing more are the groups of v.
-pub one-string : (s : List ℕ) (v : ℕ) → Bytes s → number_at s 0 ≡ Number v (length s) → s ≡ groups v
+pub one-string : (s : List ℕ) (v : ℕ) → Bytes s → number_at s 0 ≡ number_is v (length s) → s ≡ groups v
 one-string s v h e =
     let p = written_read s 0 v (length s) h e in
     p.string ∙ ap (λ (l : List ℕ). groups v ++ l) (drop-length s) ∙ append-nil (groups v)

@@ -3,15 +3,16 @@ use mathlib.Core.Path.{◌≡◌, refl, ap, ◌∙◌}
 use mathlib.Core.Bool.{Bool, true, false, cond}
 use mathlib.Core.List.{List}
 use Prim.Native.Nat.{ℕ}
-use Rattle.groups.specs.declared.Reading.{Reading}
-use Rattle.groups.specs.declared.Reading.TheVariants.{Number, Fault}
-use Rattle.groups.specs.Groups.{number_at, onward, number}
+use Rattle.std.specs.Prelude.{Result, Ok, Err}
+use Rattle.groups.specs.declared.Read.{Read}
+use Rattle.groups.specs.declared.Fault.{Fault}
+use Rattle.groups.specs.Groups.{number_at, number_is, fault_is, onward, number}
 
 module _ {A : Type 0} (form value : A) (ok : ℕ → Bool) (s : List ℕ) (at : ℕ) (rest : ℕ → ℕ → A) where
-  pub no_number : (p : ℕ) → number_at s at ≡ Fault p → number form value ok s at rest ≡ form
+  pub no_number : (p : ℕ) → number_at s at ≡ fault_is p → number form value ok s at rest ≡ form
   no_number p e = ap (onward form value ok rest) e
 
-  module _ (v next : ℕ) (e : number_at s at ≡ Number v next) where
+  module _ (v next : ℕ) (e : number_at s at ≡ number_is v next) where
     pub out-of-place : ok v ≡ false → number form value ok s at rest ≡ value
     out-of-place h = ap (onward form value ok rest) e ∙ ap (λ (b : Bool). cond b (rest v next) value) h
 
@@ -20,13 +21,13 @@ module _ {A : Type 0} (form value : A) (ok : ℕ → Bool) (s : List ℕ) (at : 
 
   -- What holds of what both faults give, and of what the rest says behind a number in place, holds whatever the bytes are.
   pub by_number : (P : A → Type 0) → P form → P value
-      → ((v next : ℕ) → number_at s at ≡ Number v next → ok v ≡ true → P (rest v next)) → P (number form value ok s at rest)
+      → ((v next : ℕ) → number_at s at ≡ number_is v next → ok v ≡ true → P (rest v next)) → P (number form value ok s at rest)
   by_number P f w h = by (number_at s at) refl
     where
-      by : (r : Reading) → number_at s at ≡ r → P (onward form value ok rest r)
-      by (Fault p) e = f
-      by (Number v next) e = held (ok v) refl
+      by : (r : Result (Read ℕ) Fault) → number_at s at ≡ r → P (onward form value ok rest r)
+      by (Err fault) e = f
+      by (Ok read) e = held (ok read.value) refl
         where
-          held : (b : Bool) → ok v ≡ b → P (cond b (rest v next) value)
-          held true t = h v next e t
+          held : (b : Bool) → ok read.value ≡ b → P (cond b (rest read.value read.next) value)
+          held true t = h read.value read.next e t
           held false t = w

@@ -1,21 +1,21 @@
 -- The loop that reads a number, on plain numbers and in the code's own masks and shifts: the groups read so far, in front of what
 -- is left, decide what is read. Assumes nothing.
-use Prim.Native.Nat.{ℕ, suc, ◌+◌, ◌*◌, ◌%◌, ◌^◌, ◌≤◌, ◌<◌}
+use Prim.Native.Nat.{ℕ, suc, ◌+◌, ◌-◌, ◌*◌, ◌%◌, ◌^◌, ◌≤◌, ◌<◌}
 use native.Mathlib.Omega.{arith}
 use native.Mathlib.Nat.{add-mul, mul_assoc, mul_comm, add_comm}
 use native.Mathlib.Numerals.{add-one}
 use mathlib.Core.Path.{◌≡◌, refl, sym, ap, ap₂, ◌∙◌, subst}
 use mathlib.Core.Bool.{Bool, true, false, cond, not, ◌&&◌}
 use mathlib.Core.List.{List, ◌∷◌}
-use lib.ListN.{length, drop, get_or, drop_of_length-le}
+use lib.ListN.{length, take, drop, get_or, drop_of_length-le}
 use lib.Seq.{drop-cons}
+use Rattle.std.proofs.lemmas.List.{take_rest}
 use lib.Arith.{digits_lt}
 use lib.Pow.{pow-add, pow_mono, shl_exact}
 use lib.Dec.{ltb, eqb}
 use lib.Bits.{bit_and, bit_or, and_mask, or_shifted_r}
 use borrow.Author.Tests.{ltb-true, ltb-false, ne_eqb, eq-eqb, eqb-true, eqb-false}
-use Rattle.groups.specs.declared.Reading.TheVariants.{Number, Fault}
-use Rattle.groups.specs.Groups.{Front, some, none, before, front, read_as, number_at}
+use Rattle.groups.specs.Groups.{Front, some, none, before, front, read_as, number_at, number_is, fault_is}
 use Rattle.groups.proofs.Strings.{before-some, before-zero, front-one, front-more}
 use Rattle.groups.proofs.Numbers.{read_some, read-over}
 
@@ -72,11 +72,11 @@ put-lt value g shift h small = omega (arith, digits_lt small h, seven-more shift
 
 -- ---- over 64 bits: the tenth group is one, and nothing else
 
-tenth-over : (at value : ℕ) (r : Front) → ((v m : ℕ) → r ≡ some v m → v ≡ 1 → ⊥) → read_as at (ahead 9 (2 ^ 63) value r) ≡ Fault at
+tenth-over : (at value : ℕ) (r : Front) → ((v m : ℕ) → r ≡ some v m → v ≡ 1 → ⊥) → read_as at (ahead 9 (2 ^ 63) value r) ≡ fault_is at
 tenth-over at value none h = refl
 tenth-over at value (some v m) h = by (eqb v 0) refl
   where
-    by : (t : Bool) → eqb v 0 ≡ t → read_as at (ahead 9 (2 ^ 63) value (some v m)) ≡ Fault at
+    by : (t : Bool) → eqb v 0 ≡ t → read_as at (ahead 9 (2 ^ 63) value (some v m)) ≡ fault_is at
     by true t = ap (read_as at) (ahead-zero 9 (2 ^ 63) value v m (eqb-true v 0 t) (omega arith))
     by false t =
         let nz : v ≡ 0 → ⊥ = eqb-false v 0 t in
@@ -110,119 +110,110 @@ front-not-one b bs other v m e o = by (ltb b 128) refl
 
 -- ---- the loop
 
--- n groups from the place `at` on, worth `value`, were read up to the place i
-pub record Reads (s : List ℕ) (at value shift i : ℕ) : Type 0 where
-  pub n : ℕ
+-- the first n bytes of r are groups with more to come, worth `value`
+pub record Reads (r : List ℕ) (value n : ℕ) : Type 0 where
   pub few : n ≤ 9
-  pub place : i ≡ at + n
-  pub bits : shift ≡ 7 * n
-  pub small : value < 2 ^ shift
-  pub rest : number_at s at ≡ read_as at (ahead n (2 ^ shift) value (front (drop i s)))
+  pub small : value < 2 ^ (7 * n)
+  pub rest : front r ≡ ahead n (2 ^ (7 * n)) value (front (drop n r))
 
-pub reads-starts : (s : List ℕ) (at : ℕ) → Reads s at 0 0 at
+pub reads-starts : (r : List ℕ) → Reads r 0 0
+reads-starts r = record { few = omega arith; small = omega arith; rest = sym (ahead_none (front r)) }
+
+-- the bytes from the place on, as the code cuts them out
+pub from-there : (s : List ℕ) (at : ℕ) → read_as at (front (take (length s - at) (drop at s))) ≡ number_at s at
 unfolding number_at
-reads-starts s at = record {
-  n = 0;
-  few = omega arith;
-  place = omega arith;
-  bits = refl;
-  small = omega arith;
-  rest = sym (ap (read_as at) (ahead_none (front (drop at s))));
-}
+from-there s at = ap (λ (l : List ℕ). read_as at (front l)) (take_rest s at)
 
-module _ {s : List ℕ} {at value shift i : ℕ} (t : Reads s at value shift i) where
+module _ {r : List ℕ} {value n : ℕ} (t : Reads r value n) (at : ℕ) where
   -- the bytes end inside the number or before it
-  pub reads-ends : length s ≤ i → Fault at ≡ number_at s at
+  pub reads-ends : length r ≤ n → fault_is at ≡ read_as at (front r)
   unfolding front
-  reads-ends h = sym (t.rest ∙ ap (λ (l : List ℕ). read_as at (ahead t.n (2 ^ shift) value (front l))) (drop_of_length-le s h))
+  reads-ends h = sym (ap (read_as at) (t.rest ∙ ap (λ (l : List ℕ). ahead n (2 ^ (7 * n)) value (front l)) (drop_of_length-le r h)))
 
-  pub shift_fits : shift < 64
-  shift_fits = omega (arith, t.few, t.bits)
-
-  module _ (b : ℕ) (is : b ≡ get_or s i 0) (more : i < length s) where
+  module _ (b : ℕ) (is : b ≡ get_or r n 0) (more : n < length r) where
     abbrev behind : List ℕ
-    behind = drop (i + 1) s
+    behind = drop (n + 1) r
 
-    here : number_at s at ≡ read_as at (ahead t.n (2 ^ shift) value (front (b ∷ behind)))
+    here : read_as at (front r) ≡ read_as at (ahead n (2 ^ (7 * n)) value (front (b ∷ behind)))
     here =
-        t.rest
-        ∙ ap (λ (l : List ℕ). read_as at (ahead t.n (2 ^ shift) value (front l)))
-        (drop-cons s i 0 more ∙ ap₂ (λ (x j : ℕ). x ∷ drop j s) (sym is) (sym (add-one i)))
-
-    past : at + (t.n + 1) ≡ i + 1
-    past = omega (arith, t.place)
+        ap (read_as at)
+        (t.rest
+        ∙ ap (λ (l : List ℕ). ahead n (2 ^ (7 * n)) value (front l))
+        (drop-cons r n 0 more ∙ ap₂ (λ (x j : ℕ). x ∷ drop j r) (sym is) (sym (add-one n))))
 
     -- the last group, which is not zero or is the only one
-    ends_with : (g : ℕ) → b ≡ g → g < 128 → ahead t.n (2 ^ shift) value (some g 1) ≡ some (value + g * 2 ^ shift) (t.n + 1)
-        → value + g * 2 ^ shift < 2 ^ 64 → number_at s at ≡ Number (value + g * 2 ^ shift) (i + 1)
+    ends_with : (g : ℕ) → b ≡ g → g < 128 → ahead n (2 ^ (7 * n)) value (some g 1) ≡ some (value + g * 2 ^ (7 * n)) (n + 1)
+        → value + g * 2 ^ (7 * n) < 2 ^ 64 → read_as at (front r) ≡ number_is (value + g * 2 ^ (7 * n)) (at + n + 1)
     ends_with g e small a fits =
+        let past : at + (n + 1) ≡ at + n + 1 = omega arith in
         here
-        ∙ ap (λ (x : ℕ). read_as at (ahead t.n (2 ^ shift) value (front (x ∷ behind)))) e
-        ∙ ap (λ (r : Front). read_as at (ahead t.n (2 ^ shift) value r)) (front-one g behind small)
+        ∙ ap (λ (x : ℕ). read_as at (ahead n (2 ^ (7 * n)) value (front (x ∷ behind)))) e
+        ∙ ap (λ (r : Front). read_as at (ahead n (2 ^ (7 * n)) value r)) (front-one g behind small)
         ∙ ap (read_as at) a
-        ∙ read_some at (value + g * 2 ^ shift) (t.n + 1) fits
-        ∙ ap (Number (value + g * 2 ^ shift)) past
+        ∙ read_some at (value + g * 2 ^ (7 * n)) (n + 1) fits
+        ∙ ap (number_is (value + g * 2 ^ (7 * n))) past
 
-    pub reads-zero : b ≡ 0 → shift ≡ 0 → Number 0 (i + 1) ≡ number_at s at
-    reads-zero e z =
-        let none_yet : t.n ≡ 0 = omega (arith, t.bits) in
-        let nothing : value ≡ 0 = omega (arith, subst (λ (k : ℕ). value < 2 ^ k) z t.small) in
-        let sum : value + 0 * 2 ^ shift ≡ 0 = omega arith in
-        sym (ends_with 0 e (omega arith) (simp (eq-eqb t.n 0 none_yet)) (omega arith) ∙ ap (λ (x : ℕ). Number x (i + 1)) sum)
-
-    pub reads-padding : b ≡ 0 → (shift ≡ 0 → ⊥) → Fault at ≡ number_at s at
+    pub reads-padding : b ≡ 0 → (7 * n ≡ 0 → ⊥) → fault_is at ≡ read_as at (front r)
     reads-padding e nz =
-        let some-yet : t.n ≡ 0 → ⊥ = λ z. nz (t.bits ∙ ap (λ (k : ℕ). 7 * k) z) in
+        let some-yet : n ≡ 0 → ⊥ = λ z. nz (ap (λ (k : ℕ). 7 * k) z) in
         sym (here
-        ∙ ap (λ (r : Front). read_as at (ahead t.n (2 ^ shift) value r)) (front-one b behind (omega arith))
-        ∙ ap (read_as at) (ahead-zero t.n (2 ^ shift) value b 1 e some-yet))
+        ∙ ap (λ (r : Front). read_as at (ahead n (2 ^ (7 * n)) value r)) (front-one b behind (omega arith))
+        ∙ ap (read_as at) (ahead-zero n (2 ^ (7 * n)) value b 1 e some-yet))
 
     -- fewer than nine groups so far
-    module _ (early : shift ≡ 63 → ⊥) where
-      room : shift + 7 ≤ 63
-      room = omega (arith, t.few, t.bits)
+    module _ (early : 7 * n ≡ 63 → ⊥) where
+      room : 7 * n + 7 ≤ 63
+      room = omega (arith, t.few)
 
-      pub reads-last : b < 128 → (b ≡ 0 → ⊥) → Number (bit_or value ((b * 2 ^ shift) % 2 ^ 64)) (i + 1) ≡ number_at s at
-      reads-last small nz =
-          ap (λ (x : ℕ). Number x (i + 1)) (put-group value b shift t.small small (omega (arith, room)))
-          ∙ sym (ends_with b refl small (ahead-some t.n (2 ^ shift) value b 1 nz)
-          (omega (arith, put-lt value b shift t.small small, pow_mono {i = shift + 7} {j = 63} room)))
+      -- the last group is zero only where it is the only one
+      pub reads-last : b < 128 → (b ≡ 0 → 7 * n ≡ 0) → number_is (bit_or value ((b * 2 ^ (7 * n)) % 2 ^ 64)) (at + n + 1) ≡ read_as at (front r)
+      reads-last small only =
+          ap (λ (x : ℕ). number_is x (at + n + 1)) (put-group value b (7 * n) t.small small (omega (arith, room)))
+          ∙ sym (ends_with b refl small (by (eqb b 0) refl)
+          (omega (arith, put-lt value b (7 * n) t.small small, pow_mono {i = 7 * n + 7} {j = 63} room)))
+        where
+          by : (z : Bool) → eqb b 0 ≡ z → ahead n (2 ^ (7 * n)) value (some b 1) ≡ some (value + b * 2 ^ (7 * n)) (n + 1)
+          by false z = ahead-some n (2 ^ (7 * n)) value b 1 (eqb-false b 0 z)
+          by true z = let none_yet : n ≡ 0 = omega (arith, only (eqb-true b 0 z)) in simp (eq-eqb n 0 none_yet, z)
 
-      group : bit_or value ((bit_and b 127 * 2 ^ shift) % 2 ^ 64) ≡ value + b % 128 * 2 ^ shift
+      group : bit_or value ((bit_and b 127 * 2 ^ (7 * n)) % 2 ^ 64) ≡ value + b % 128 * 2 ^ (7 * n)
       group =
-          ap (λ (g : ℕ). bit_or value ((g * 2 ^ shift) % 2 ^ 64)) (and_mask b 7)
-          ∙ put-group value (b % 128) shift t.small (omega arith) (omega (arith, room))
+          ap (λ (g : ℕ). bit_or value ((g * 2 ^ (7 * n)) % 2 ^ 64)) (and_mask b 7)
+          ∙ put-group value (b % 128) (7 * n) t.small (omega arith) (omega (arith, room))
 
-      pub reads_on : 128 ≤ b → Reads s at (bit_or value ((bit_and b 127 * 2 ^ shift) % 2 ^ 64)) (shift + 7) (i + 1)
+      next-place : 7 * n + 7 ≡ 7 * (n + 1)
+      next-place = omega arith
+
+      pub reads_on : 128 ≤ b → Reads r (bit_or value ((bit_and b 127 * 2 ^ (7 * n)) % 2 ^ 64)) (n + 1)
       reads_on large = rw group record {
-        n = t.n + 1;
-        few = omega (arith, room, t.bits);
-        place = sym past;
-        bits = omega (arith, t.bits);
-        small = put-lt value (b % 128) shift t.small (omega arith);
+        few = omega (arith, room);
+        small = subst (λ (k : ℕ). value + b % 128 * 2 ^ (7 * n) < 2 ^ k) next-place (put-lt value (b % 128) (7 * n) t.small (omega arith));
         rest =
-            here
-            ∙ ap (λ (r : Front). read_as at (ahead t.n (2 ^ shift) value r)) (front-more b behind large)
-            ∙ ap (read_as at) (ahead_before t.n (2 ^ shift) value (b % 128) (front behind))
-            ∙ ap (λ (p : ℕ). read_as at (ahead (t.n + 1) p (value + b % 128 * 2 ^ shift) (front behind))) (seven-more shift);
+            t.rest
+            ∙ ap (λ (l : List ℕ). ahead n (2 ^ (7 * n)) value (front l))
+            (drop-cons r n 0 more ∙ ap₂ (λ (x j : ℕ). x ∷ drop j r) (sym is) (sym (add-one n)))
+            ∙ ap (ahead n (2 ^ (7 * n)) value) (front-more b behind large)
+            ∙ ahead_before n (2 ^ (7 * n)) value (b % 128) (front behind)
+            ∙ ap (λ (p : ℕ). ahead (n + 1) p (value + b % 128 * 2 ^ (7 * n)) (front behind))
+            (seven-more (7 * n) ∙ ap (λ (k : ℕ). 2 ^ k) next-place);
       }
 
     -- nine groups so far
-    module _ (late : shift ≡ 63) where
-      nine : t.n ≡ 9
-      nine = omega (arith, t.bits)
+    module _ (late : 7 * n ≡ 63) where
+      nine : n ≡ 9
+      nine = omega arith
 
       small_at : value < 2 ^ 63
       small_at = subst (λ (k : ℕ). value < 2 ^ k) late t.small
 
-      pub reads-tenth : b ≡ 1 → Number (bit_or value (2 ^ 63)) (i + 1) ≡ number_at s at
+      pub reads-tenth : b ≡ 1 → number_is (bit_or value (2 ^ 63)) (at + n + 1) ≡ read_as at (front r)
       reads-tenth e =
-          let sum : value + 1 * 2 ^ shift ≡ value + 1 * 2 ^ 63 = ap (λ (k : ℕ). value + 1 * 2 ^ k) late in
-          ap (λ (x : ℕ). Number x (i + 1)) (or_shifted_r 1 63 value small_at ∙ add_comm (1 * 2 ^ 63) value ∙ sym sum)
-          ∙ sym (ends_with 1 e (omega arith) (ahead-some t.n (2 ^ shift) value 1 1 (omega arith)) (omega (arith, small_at, sum)))
+          let sum : value + 1 * 2 ^ (7 * n) ≡ value + 1 * 2 ^ 63 = ap (λ (k : ℕ). value + 1 * 2 ^ k) late in
+          ap (λ (x : ℕ). number_is x (at + n + 1)) (or_shifted_r 1 63 value small_at ∙ add_comm (1 * 2 ^ 63) value ∙ sym sum)
+          ∙ sym (ends_with 1 e (omega arith) (ahead-some n (2 ^ (7 * n)) value 1 1 (omega arith)) (omega (arith, small_at, sum)))
 
-      pub reads_over : (b ≡ 1 → ⊥) → Fault at ≡ number_at s at
+      pub reads_over : (b ≡ 1 → ⊥) → fault_is at ≡ read_as at (front r)
       reads_over other =
           sym (here
-          ∙ ap₂ (λ (k n : ℕ). read_as at (ahead n (2 ^ k) value (front (b ∷ behind)))) late nine
+          ∙ ap₂ (λ (k m : ℕ). read_as at (ahead m (2 ^ k) value (front (b ∷ behind)))) late nine
           ∙ tenth-over at value (front (b ∷ behind)) (front-not-one b behind other))

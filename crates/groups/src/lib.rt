@@ -3,108 +3,95 @@
 
 ghost use Rattle.std.specs.Prelude.{◌≡◌, ◌≤◌, length};
 ghost use Rattle.laws.specs.Front.{at_front_if_room, room_for};
-ghost use Rattle.groups.specs.Groups.{groups, number_at, found, written};
+ghost use Rattle.groups.specs.Groups.{groups, number_at, written};
 
-/// What reading a number finds.
-#[derive(Clone, Copy)]
-pub enum Reading {
-    /// The number, and the place just past its last byte (0).
-    Number { value: u64, next: usize },
-    /// No number: the bytes end inside it or before it, or it is longer than shortest, or over 64 bits (9).
-    /// The place is that of its first byte.
-    Fault { at: usize },
+use numbers::Numbered;
+
+/// What was read, and the place just past it.
+#[derive(Clone, Copy, Debug, PartialEq, Eq)]
+pub struct Read<T> {
+    pub value: T,
+    pub next: usize,
 }
 
-/// What writing a number comes to.
-#[derive(Clone, Copy)]
-pub enum Writing {
-    /// So many bytes at the front of the room were taken (0).
-    Bytes(usize),
-    /// The room is too short, and is as it came (6).
-    Short,
+/// No number stands at the place, which is that of its first byte: the bytes end inside it or before it, or it is longer
+/// than shortest, or over 64 bits (9).
+#[derive(Clone, Copy, Debug, PartialEq, Eq)]
+pub struct Fault {
+    pub at: usize,
 }
 
-impl Reading {
-    /// 01's number of the answer.
-    pub fn number(self) -> u8
-        ensures { result ≡ (found self).0 }
-    {
-        match self {
-            Reading::Number { value: _, next: _ } => 0,
-            Reading::Fault { at: _ } => 9,
-        }
+/// The room is too short for a number, and is as it came (6).
+#[derive(Clone, Copy, Debug, PartialEq, Eq)]
+pub struct TooShort;
+
+impl Numbered for Fault {
+    ghost number = { λ _. 9 };
+
+    /// 01's number of the refusal.
+    fn number(&self) -> u8 {
+        9
     }
 }
 
-impl Writing {
-    /// 01's number of the answer.
-    pub fn number(self) -> u8
-        ensures { result ≡ (written self).0 }
-    {
-        match self {
-            Writing::Bytes(_) => 0,
-            Writing::Short => 6,
-        }
-    }
-}
+impl Numbered for TooShort {
+    ghost number = { λ _. 6 };
 
-fn wide(b: u8) -> u64
-    ensures { result ≡ b }
-{
-    b as u64
+    /// 01's number of the refusal.
+    fn number(&self) -> u8 {
+        6
+    }
 }
 
 /// Reads the number that stands at the place `at` of the bytes `s`.
 ///
-/// Gives `Number` with its value and the place past it.
+/// Gives `Ok` with its value and the place past it.
 ///
 /// # Refusal
 ///
 /// `Fault` with the place of the number's first byte, `at`, where no number in shortest form and of at most 64 bits
-/// stands there. A place past the end is a fault too.
+/// stands there (9). A place past the end is a fault too.
 ///
 /// # Example
 ///
-/// `read_number(&[128, 1, 7], 0)` is `Number { value: 128, next: 2 }`; `read_number(&[128, 0], 0)` is `Fault { at: 0 }`.
-pub fn read_number(s: &[u8], at: usize) -> Reading
+/// `read_number(&[128, 1, 7], 0)` is `Ok(Read { value: 128, next: 2 })`; `read_number(&[128, 0], 0)` is
+/// `Err(Fault { at: 0 })`.
+pub fn read_number(s: &[u8], at: usize) -> Result<Read<u64>, Fault>
     ensures { result ≡ number_at s.now at }
 {
+    let fault = Fault { at };
+    if s.len() < at {
+        return Err(fault);
+    }
     let mut value: u64 = 0;
-    let mut shift: u64 = 0;
-    let mut i = at;
-    while i < s.len() {
-        let b = wide(s[i]);
+    let rest = &s[at..];
+    for (n, byte) in rest.iter().enumerate() {
+        let b = u64::from(*byte);
+        let shift = 7 * n;
+        let next = at + n + 1;
         if shift == 63 {
             // nine groups are 63 bits, so a tenth can only be the one bit that is left
             if b == 1 {
-                return Reading::Number {
+                return Ok(Read {
                     value: value | (1 << 63),
-                    next: i + 1,
-                };
+                    next,
+                });
             }
-            return Reading::Fault { at };
+            return Err(fault);
         }
         if b < 128 {
-            if b == 0 {
-                // only the number zero ends in a zero
-                if shift == 0 {
-                    return Reading::Number {
-                        value: 0,
-                        next: i + 1,
-                    };
-                }
-                return Reading::Fault { at };
+            // only the number zero ends in a zero
+            if b == 0 && shift != 0 {
+                return Err(fault);
             }
-            return Reading::Number {
+            return Ok(Read {
                 value: value | (b << shift),
-                next: i + 1,
-            };
+                next,
+            });
         }
         value = value | ((b & 127) << shift);
-        shift += 7;
-        i += 1;
     }
-    Reading::Fault { at }
+    Err(fault)
 }
 
 /// How many groups the number `x` has, from 1 to 10.
@@ -126,29 +113,28 @@ pub fn size(x: u64) -> usize
 
 /// Writes the number `x` at the front of the room `out`.
 ///
-/// Gives `Bytes` with the count of bytes taken; what lies past them is untouched.
+/// Gives `Ok` with the count of bytes taken; what lies past them is untouched.
 ///
 /// # Refusal
 ///
-/// `Short` where the room is shorter than the number; nothing is written then.
+/// `TooShort` where the room is shorter than the number; nothing is written then (6).
 ///
 /// # Example
 ///
-/// `write_number(out, 128)` writes `80 01` and gives `Bytes(2)`; into a room of one byte it gives `Short`.
-pub fn write_number(out: &mut [u8], x: u64) -> Writing
+/// `write_number(out, 128)` writes `80 01` and gives `Ok(2)`; into a room of one byte it gives `Err(TooShort)`.
+pub fn write_number(out: &mut [u8], x: u64) -> Result<usize, TooShort>
     ensures answer { written result ≡ room_for (groups x) (length out.old) }
     ensures room { out.new ≡ at_front_if_room (groups x) out.old }
 {
-    if out.len() < size(x) {
-        return Writing::Short;
+    let last = size(x) - 1;
+    if out.len() <= last {
+        return Err(TooShort);
     }
     let mut rest = x;
-    let mut i: usize = 0;
-    while 128 <= rest {
-        out[i] = (rest & 127 | 128) as u8;
+    for byte in out[..last].iter_mut() {
+        *byte = (rest & 127 | 128) as u8;
         rest = rest >> 7;
-        i += 1;
     }
-    out[i] = rest as u8;
-    Writing::Bytes(i + 1)
+    out[last] = rest as u8;
+    Ok(last + 1)
 }

@@ -1,6 +1,4 @@
 -- The laws of reading, of writing and of comparing.
+pub mod InGroups
 mod Rows
-mod Matching
-pub mod Outcomes
-pub mod Putting
 mod Alike

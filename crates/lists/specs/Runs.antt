@@ -1,25 +1,13 @@
 -- How far the replay of a list has come. Definitions only.
-use Rattle.std.specs.Prelude.{Bool, true, cond, ◌&&◌, ℕ, ◌+◌, ltb}
+use Rattle.std.specs.Prelude.{Bool, cond, ℕ, ◌+◌}
 use Rattle.lists.specs.declared.run.Run.{Run}
-use Rattle.lists.specs.declared.run.Replayed.{Replayed}
-use Rattle.lists.specs.declared.run.Replayed.TheVariants.{Case, Fault}
+use Rattle.lists.specs.declared.run.Case.{Case}
 use Rattle.lists.specs.Outcomes.{differs}
 
--- where the bytes are no list
-abbrev pub no_list : Run
-no_list = record { cases = 0; k = 0; at = 0; differ = 0; broken = true }
+-- the number, or one more
+abbrev pub counted : ℕ → Bool → ℕ
+counted n more = n + cond more 1 0
 
--- the number, or one more, but no more than so many
-abbrev pub counted : ℕ → Bool → ℕ → ℕ
-counted n more most = cond (more && ltb n most) (n + 1) n
-
--- past a case, or past a fault
-abbrev pub run_past : Run → Replayed → Run
-run_past run (Case outcome next) = record {
-  cases = run.cases;
-  k = counted run.k true run.cases;
-  at = next;
-  differ = counted run.differ (differs outcome) run.cases;
-  broken = run.broken;
-}
-run_past run (Fault fault) = no_list
+-- past a case
+abbrev pub run_past : Run → Case → Run
+run_past run case = record { at = case.next; differ = counted run.differ (differs case.outcome) }

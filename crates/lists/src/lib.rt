@@ -5,21 +5,20 @@
 mod input;
 mod ours;
 mod outcome;
+mod row;
 mod run;
 mod words;
 
-ghost use Rattle.std.specs.Prelude.{◌≡◌, length};
-ghost use Rattle.laws.specs.Front.{at_front};
-ghost use Rattle.lists.specs.Found.{of_number, of_small, of_float, of_bytes, of_passed};
+ghost use Rattle.std.specs.Prelude.{◌≡◌, ◌≤◌, length, IfOk};
 ghost use Rattle.lists.specs.Reading.{cut, no_number, number_from, small_from, listed_at, tag_from, answer_from, float_from};
-ghost use Rattle.lists.specs.Reading.{bytes_from, floats_from, numbers_from, opening_of, closing_from};
-ghost use Rattle.lists.specs.Taken.{AtMost, Within};
+ghost use Rattle.lists.specs.Reading.{bytes_from, numbers_from, opening_of, closing_from};
 
-use groups::Reading;
+pub use groups::Read;
 pub use input::read_input;
-pub use ours::{bits, floats_are, marks_are, put_floats, put_marks, put_number};
-pub use outcome::{Outcome, Parting, compare, hold};
-pub use run::{Replayed, Run, begin, end, past};
+pub use ours::{Bytes, Listed, all_are, bits};
+pub use outcome::{Difference, Outcome, Parting, compare, stored};
+pub use row::{Entry, read_row};
+pub use run::{Case, replay};
 
 /// Bytes of the longest list.
 pub const MOST_BYTES: usize = 400_000;
@@ -28,7 +27,7 @@ pub const MOST_BYTES: usize = 400_000;
 pub const ALL_TESTS: u16 = 511;
 
 /// What a number of a list stands for.
-#[derive(Clone, Copy)]
+#[derive(Clone, Copy, Debug, PartialEq, Eq)]
 pub enum Item {
     Format,
     Cases,
@@ -53,7 +52,7 @@ pub enum Item {
 }
 
 /// Why bytes are no list.
-#[derive(Clone, Copy)]
+#[derive(Clone, Copy, Debug, PartialEq, Eq)]
 pub enum Why {
     /// The bytes end at the number or inside it.
     Cut,
@@ -72,328 +71,198 @@ pub enum Why {
 }
 
 /// Where and why bytes are no list. The place is that of the first byte of the number concerned.
-#[derive(Clone, Copy)]
+#[derive(Clone, Copy, Debug, PartialEq, Eq)]
 pub struct Fault {
     pub at: usize,
     pub item: Item,
     pub why: Why,
 }
 
-/// A number and the place just past it.
-#[derive(Clone, Copy)]
-pub struct Wide {
-    pub value: u64,
-    pub next: usize,
-}
-
-/// A number below 2^16 and the place just past it.
-#[derive(Clone, Copy)]
-pub struct Narrow {
-    pub value: u16,
-    pub next: usize,
-}
-
-/// A finite f64 and the place just past it.
-#[derive(Clone, Copy)]
-pub struct Real {
-    pub value: f64,
-    pub next: usize,
-}
-
-/// What reading a number finds.
-#[derive(Clone, Copy)]
-pub enum Number {
-    Read(Wide),
-    Fault(Fault),
-}
-
-/// What reading a number that has to lie within bounds finds.
-#[derive(Clone, Copy)]
-pub enum Small {
-    Read(Narrow),
-    Fault(Fault),
-}
-
-/// What reading an f64 finds.
-#[derive(Clone, Copy)]
-pub enum Float {
-    Read(Real),
-    Fault(Fault),
-}
-
 /// Where bytes that stand as they are begin, and the place just past them.
-#[derive(Clone, Copy)]
+#[derive(Clone, Copy, Debug, PartialEq, Eq)]
 pub struct Stretch {
     pub from: usize,
     pub to: usize,
 }
 
-/// What reading bytes that stand as they are finds.
-#[derive(Clone, Copy)]
-pub enum Bytes {
-    Read(Stretch),
-    Fault(Fault),
-}
-
-/// What reading several numbers finds: the place just past them, or the fault of the first that has one.
-#[derive(Clone, Copy)]
-pub enum Passed {
-    Next(usize),
-    Fault(Fault),
-}
-
 // Whether the bytes end before a number that begins at the place does.
+#[tactic(auto, unfolding(crate::specs::Reading::cut))]
 fn is_cut(list: &[u8], at: usize) -> bool
     ensures { result ≡ cut list.now at }
 {
-    let mut i = at;
-    while i < list.len() {
-        if list[i] < 128 {
-            return false;
-        }
-        i += 1;
-    }
-    true
+    list.iter().skip(at).all(|byte| 128 <= *byte)
 }
 
 // Why no number stands at the place.
 fn fault_of(list: &[u8], at: usize, item: Item) -> Fault
     ensures { result ≡ no_number list.now at item }
 {
-    if is_cut(list, at) {
-        return Fault {
-            at,
-            item,
-            why: Why::Cut,
-        };
-    }
-    Fault {
-        at,
-        item,
-        why: Why::Form,
-    }
+    let why = if is_cut(list, at) {
+        Why::Cut
+    } else {
+        Why::Form
+    };
+    Fault { at, item, why }
 }
 
 /// Reads the number at the place `at`.
-pub fn read_number(list: &[u8], at: usize, item: Item) -> Number
-    ensures { of_number result ≡ number_from list.now item at }
+#[tactic(auto, unfolding(crate::specs::Reading::number_from))]
+pub fn read_number(list: &[u8], at: usize, item: Item) -> Result<Read<u64>, Fault>
+    ensures { result ≡ number_from list.now item at }
 {
-    match groups::read_number(list, at) {
-        Reading::Number { value, next } => Number::Read(Wide { value, next }),
-        Reading::Fault { at } => Number::Fault(fault_of(list, at, item)),
-    }
+    groups::read_number(list, at).map_err(|fault| fault_of(list, fault.at, item))
 }
 
 /// Reads the number at the place `at`, which has to be `low` to `high`.
-pub fn read_small(list: &[u8], at: usize, item: Item, low: u16, high: u16) -> Small
-    ensures result_value { of_small result ≡ small_from list.now item low high at }
-    ensures most { AtMost high result }
+#[tactic(auto, unfolding(crate::specs::Reading::small_from))]
+pub fn read_small(
+    list: &[u8],
+    at: usize,
+    item: Item,
+    low: u16,
+    high: u16,
+) -> Result<Read<u16>, Fault>
+    ensures result_value { result ≡ small_from list.now item low high at }
+    ensures most { IfOk result (λ number. number.value ≤ high) }
 {
-    match read_number(list, at, item) {
-        Number::Read(read) => {
-            let value = read.value;
-            let range = Fault {
-                at,
-                item,
-                why: Why::Range { value, low, high },
-            };
-            if value < low as u64 {
-                return Small::Fault(range);
-            }
-            if value > high as u64 {
-                return Small::Fault(range);
-            }
-            Small::Read(Narrow {
-                value: value as u16,
-                next: read.next,
-            })
-        }
-        Number::Fault(fault) => Small::Fault(fault),
+    let number = read_number(list, at, item)?;
+    let value = number.value;
+    if value < u64::from(low) || u64::from(high) < value {
+        return Err(Fault {
+            at,
+            item,
+            why: Why::Range { value, low, high },
+        });
     }
+    Ok(Read {
+        value: value as u16,
+        next: number.next,
+    })
 }
 
 // What was read at the place `at`, where lists have it there.
-fn listed(at: usize, item: Item, number: Narrow, have: bool) -> Small
-    ensures { of_small result ≡ listed_at at item have number.value number.next }
+fn listed(at: usize, item: Item, number: Read<u16>, have: bool) -> Result<Read<u16>, Fault>
+    ensures { result ≡ listed_at at item have number.value number.next }
 {
     if have {
-        return Small::Read(number);
+        return Ok(number);
     }
-    let value = number.value as u64;
-    Small::Fault(Fault {
+    Err(Fault {
         at,
         item,
-        why: Why::Unlisted { value },
+        why: Why::Unlisted {
+            value: u64::from(number.value),
+        },
     })
 }
 
 /// Reads the tag at the place `at`: that of a case, of such a case with stops, or of one in a width mode.
-pub fn read_tag(list: &[u8], at: usize, plain: u16, stopped: u16, moded: u16) -> Small
-    ensures { of_small result ≡ tag_from list.now plain stopped moded at }
+#[tactic(auto, unfolding(crate::specs::Reading::tag_from))]
+pub fn read_tag(
+    list: &[u8],
+    at: usize,
+    plain: u16,
+    stopped: u16,
+    moded: u16,
+) -> Result<Read<u16>, Fault>
+    ensures { result ≡ tag_from list.now plain stopped moded at }
 {
-    match read_small(list, at, Item::Tag, plain, moded) {
-        Small::Read(tag) => {
-            let value = tag.value;
-            let known = (value == plain) | (value == stopped) | (value == moded);
-            listed(at, Item::Tag, tag, known)
-        }
-        Small::Fault(fault) => Small::Fault(fault),
-    }
+    let tag = read_small(list, at, Item::Tag, plain, moded)?;
+    let value = tag.value;
+    let known = (value == plain) | (value == stopped) | (value == moded);
+    listed(at, Item::Tag, tag, known)
 }
 
 /// Reads the answer at the place `at`: 01's number, which has to be 0, or 7 to `high`.
-pub fn read_answer(list: &[u8], at: usize, high: u16) -> Small
-    ensures { of_small result ≡ answer_from list.now high at }
+#[tactic(auto, unfolding(crate::specs::Reading::answer_from))]
+pub fn read_answer(list: &[u8], at: usize, high: u16) -> Result<Read<u16>, Fault>
+    ensures { result ≡ answer_from list.now high at }
 {
-    match read_small(list, at, Item::Answer, 0, high) {
-        Small::Read(answer) => {
-            let value = answer.value;
-            listed(at, Item::Answer, answer, (value == 0) | (7 <= value))
-        }
-        Small::Fault(fault) => Small::Fault(fault),
-    }
+    let answer = read_small(list, at, Item::Answer, 0, high)?;
+    let value = answer.value;
+    listed(at, Item::Answer, answer, (value == 0) | (7 <= value))
 }
 
 /// Reads the f64 at the place `at`, which has to be finite.
-pub fn read_float(list: &[u8], at: usize, item: Item) -> Float
-    ensures { of_float result ≡ float_from list.now item at }
+#[tactic(auto, unfolding(crate::specs::Reading::float_from))]
+pub fn read_float(list: &[u8], at: usize, item: Item) -> Result<Read<f64>, Fault>
+    ensures { result ≡ float_from list.now item at }
 {
-    match read_number(list, at, item) {
-        Number::Read(read) => {
-            let value = floats::of_bits(read.value);
-            if floats::is_finite(value) {
-                return Float::Read(Real {
-                    value,
-                    next: read.next,
-                });
-            }
-            Float::Fault(Fault {
-                at,
-                item,
-                why: Why::NotFinite,
-            })
-        }
-        Number::Fault(fault) => Float::Fault(fault),
+    let number = read_number(list, at, item)?;
+    let value = floats::of_bits(number.value);
+    if floats::is_finite(value) {
+        return Ok(Read {
+            value,
+            next: number.next,
+        });
     }
+    Err(Fault {
+        at,
+        item,
+        why: Why::NotFinite,
+    })
 }
 
-/// Reads as many f64 as `out` has room for. Those before a fault stand at its front.
-pub fn read_floats(list: &[u8], at: usize, item: Item, out: &mut [f64]) -> Passed
-    ensures result_value { of_passed result ≡ (floats_from list.now item (length out.old) at).1 }
-    ensures values { out.new ≡ at_front (floats_from list.now item (length out.old) at).0 out.old }
+/// Passes over n numbers, and gives the place just past them.
+pub fn pass_numbers(list: &[u8], at: usize, item: Item, n: usize) -> Result<usize, Fault>
+    ensures { result ≡ (numbers_from list.now item n at).1 }
 {
-    let mut next_at = at;
-    let mut i = 0;
-    while i < out.len() {
-        match read_float(list, next_at, item) {
-            Float::Read(read) => {
-                out[i] = read.value;
-                next_at = read.next;
-            }
-            Float::Fault(fault) => return Passed::Fault(fault),
-        }
-        i += 1;
+    let mut next = at;
+    for _ in 0..n {
+        next = read_number(list, next, item)?.next;
     }
-    Passed::Next(next_at)
-}
-
-/// Reads as many positions as `out` has room for, which may be any numbers. Those before a fault stand at its front.
-pub fn read_positions(list: &[u8], at: usize, item: Item, out: &mut [usize]) -> Passed
-    ensures result_value { of_passed result ≡ (numbers_from list.now item (length out.old) at).1 }
-    ensures values { out.new ≡ at_front (numbers_from list.now item (length out.old) at).0 out.old }
-{
-    let mut next_at = at;
-    let mut i = 0;
-    while i < out.len() {
-        match read_number(list, next_at, item) {
-            Number::Read(read) => {
-                out[i] = read.value as usize;
-                next_at = read.next;
-            }
-            Number::Fault(fault) => return Passed::Fault(fault),
-        }
-        i += 1;
-    }
-    Passed::Next(next_at)
-}
-
-/// Passes over n numbers.
-pub fn pass_numbers(list: &[u8], at: usize, item: Item, n: usize) -> Passed
-    ensures { of_passed result ≡ (numbers_from list.now item n at).1 }
-{
-    let mut next_at = at;
-    let mut i = 0;
-    while i < n {
-        match read_number(list, next_at, item) {
-            Number::Read(read) => next_at = read.next,
-            Number::Fault(fault) => return Passed::Fault(fault),
-        }
-        i += 1;
-    }
-    Passed::Next(next_at)
+    Ok(next)
 }
 
 /// Reads how many bytes there are at the place `at`, and passes over these.
-pub fn read_bytes(list: &[u8], at: usize, item: Item) -> Bytes
-    ensures result_value { of_bytes result ≡ bytes_from list.now item at }
-    ensures inside { Within (length list.now) result }
+#[tactic(auto, unfolding(crate::specs::Reading::bytes_from))]
+pub fn read_bytes(list: &[u8], at: usize, item: Item) -> Result<Stretch, Fault>
+    ensures result_value { result ≡ bytes_from list.now item at }
+    ensures inside { IfOk result (λ bytes. (bytes.from ≤ bytes.to) × (bytes.to ≤ length list.now)) }
 {
-    match read_number(list, at, item) {
-        Number::Read(read) => {
-            let from = read.next;
-            let cut = Fault {
-                at,
-                item,
-                why: Why::Cut,
-            };
-            if list.len() < from {
-                return Bytes::Fault(cut);
-            }
-            if ((list.len() - from) as u64) < read.value {
-                return Bytes::Fault(cut);
-            }
-            Bytes::Read(Stretch {
-                from: from,
-                to: from + read.value as usize,
-            })
-        }
-        Number::Fault(fault) => Bytes::Fault(fault),
+    let count = read_number(list, at, item)?;
+    let from = count.next;
+    if list.len() < from || ((list.len() - from) as u64) < count.value {
+        return Err(Fault {
+            at,
+            item,
+            why: Why::Cut,
+        });
     }
+    Ok(Stretch {
+        from,
+        to: from + count.value as usize,
+    })
 }
 
 /// Reads what stands before the first case, and gives the number of cases.
-pub fn opening(list: &[u8]) -> Number
-    ensures { of_number result ≡ opening_of list.now }
+#[tactic(auto, unfolding(crate::specs::Reading::opening_of))]
+pub fn opening(list: &[u8]) -> Result<Read<u64>, Fault>
+    ensures { result ≡ opening_of list.now }
 {
     if MOST_BYTES < list.len() {
-        return Number::Fault(Fault {
+        return Err(Fault {
             at: MOST_BYTES,
             item: Item::End,
             why: Why::TooLong,
         });
     }
-    match read_small(list, 0, Item::Format, 1, 1) {
-        Small::Read(format) => read_number(list, format.next, Item::Cases),
-        Small::Fault(fault) => Number::Fault(fault),
-    }
+    let format = read_small(list, 0, Item::Format, 1, 1)?;
+    read_number(list, format.next, Item::Cases)
 }
 
-/// Reads the end, which stands where the next tag would and is followed by nothing.
-pub fn closing(list: &[u8], at: usize) -> Passed
-    ensures { of_passed result ≡ closing_from list.now at }
+/// Reads the end, which stands where the next tag would and is followed by nothing; gives the place past it.
+#[tactic(auto, unfolding(crate::specs::Reading::closing_from))]
+pub fn closing(list: &[u8], at: usize) -> Result<usize, Fault>
+    ensures { result ≡ closing_from list.now at }
 {
-    match read_small(list, at, Item::End, 0, 0) {
-        Small::Read(end) => {
-            let next = end.next;
-            if next < list.len() {
-                return Passed::Fault(Fault {
-                    at: next,
-                    item: Item::End,
-                    why: Why::LeftOver,
-                });
-            }
-            Passed::Next(next)
-        }
-        Small::Fault(fault) => Passed::Fault(fault),
+    let end = read_small(list, at, Item::End, 0, 0)?.next;
+    if end < list.len() {
+        return Err(Fault {
+            at: end,
+            item: Item::End,
+            why: Why::LeftOver,
+        });
     }
+    Ok(end)
 }

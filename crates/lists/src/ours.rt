@@ -1,10 +1,12 @@
-// What is ours, as a list has it: numbers in groups of seven from a place of a room on.
-ghost use Rattle.std.specs.Prelude.{◌≡◌, ◌∷◌, []};
+// What is ours, as a list has it: numbers in groups of seven, one after another.
+ghost use Rattle.std.specs.Prelude.{◌≡◌, ℕ, ◌≤◌, ◌++◌, List, [], cond, map, take, OnOk};
 ghost use Rattle.std.specs.Float.{binary64};
 ghost use Rattle.std.specs.Float.Ieee.{to_bits};
-ghost use Rattle.lists.specs.Ours.{Put, all_bits, all_are};
+ghost use Rattle.groups.specs.Groups.{groups};
+ghost use Rattle.lists.specs.Ours.{in_groups, all_are};
 
-use groups::Writing;
+use groups::TooShort;
+use std::marker::Model;
 
 /// The bits of an f64. A NaN has those of the quiet one with nothing in it: no list has any.
 pub fn bits(x: f64) -> u64
@@ -17,70 +19,109 @@ pub fn bits(x: f64) -> u64
     f64::to_bits(x)
 }
 
-/// Writes a number, and gives the place past it. Where the room does not reach so far, that is one past its end.
-pub fn put_number(out: &mut [u8], at: usize, x: u64) -> usize
-    ensures { Put (x ∷ []) at out.old result out.new }
-{
-    if out.len() < at {
-        return out.len() + 1;
-    }
-    match groups::write_number(&mut out[at..], x) {
-        Writing::Bytes(n) => at + n,
-        Writing::Short => out.len() + 1,
+/// What stands in a list as a number.
+pub trait Listed {
+    ghost listed: { Self → ℕ };
+
+    /// That number.
+    fn listed(&self) -> u64
+        ensures { result ≡ listed self.now };
+}
+
+/// An f64 stands as its bits.
+impl Listed for f64 {
+    ghost listed = { to_bits binary64 };
+
+    fn listed(&self) -> u64 {
+        bits(*self)
     }
 }
 
-/// Writes the bits of f64 one after another, and gives the place past them.
-pub fn put_floats(out: &mut [u8], at: usize, xs: &[f64]) -> usize
-    ensures { Put (all_bits xs.now) at out.old result out.new }
-{
-    let mut next = at;
-    let mut i = 0;
-    while i < xs.len() {
-        next = put_number(out, next, bits(xs[i]));
-        i += 1;
+/// The marks of a point stand as they are.
+impl Listed for u16 {
+    ghost listed = { λ marks. marks };
+
+    fn listed(&self) -> u64 {
+        u64::from(*self)
     }
-    next
 }
 
-/// Writes the marks of points one after another, and gives the place past them.
-pub fn put_marks(out: &mut [u8], at: usize, marks: &[u16]) -> usize
-    ensures { Put marks.now at out.old result out.new }
-{
-    let mut next = at;
-    let mut i = 0;
-    while i < marks.len() {
-        next = put_number(out, next, marks[i] as u64);
-        i += 1;
+/// A number stands as it is.
+impl Listed for u64 {
+    ghost listed = { λ n. n };
+
+    fn listed(&self) -> u64 {
+        *self
     }
-    next
 }
 
-/// Whether all f64 from a place on are this one, by their bits.
-pub fn floats_are(xs: &[f64], from: usize, x: f64) -> bool
-    ensures { result ≡ all_are (all_bits xs.now) from (to_bits binary64 x) }
-{
-    let right = bits(x);
-    let mut i = from;
-    while i < xs.len() {
-        if bits(xs[i]) != right {
-            return false;
+/// Yes stands as 1, and no as 0.
+impl Listed for bool {
+    ghost listed = { λ yes. cond yes 1 0 };
+
+    fn listed(&self) -> u64 {
+        u64::from(*self)
+    }
+}
+
+/// Numbers that were written one after another, in at most N bytes.
+#[derive(Debug, Drop)]
+pub struct Bytes<const N: usize> {
+    room: [u8; N],
+    len: usize,
+}
+
+// Clauses see the bytes that were written.
+impl<const N: usize> Model for Bytes<N> {
+    ghost Value = { List ℕ };
+
+    ghost view = { λ b. take b.len b.room };
+
+    ghost invariant = { λ b. b.len ≤ N };
+}
+
+impl<const N: usize> Bytes<N> {
+    /// None yet.
+    pub fn new() -> Self
+        ensures { result ≡ [] }
+    {
+        Bytes {
+            room: [0; N],
+            len: 0,
         }
-        i += 1;
     }
-    true
+
+    /// Writes a number behind what was written.
+    pub fn put(&mut self, x: u64) -> Result<(), TooShort>
+        ensures { OnOk result (self.new ≡ self.old ++ groups x) }
+    {
+        let room = &mut self.room[..];
+        self.len += groups::write_number(&mut room[self.len..], x)?;
+        Ok(())
+    }
+
+    /// Writes the numbers of a row one after another.
+    pub fn put_row<T: Listed>(&mut self, xs: &[T]) -> Result<(), TooShort>
+        ensures { OnOk result (self.new ≡ self.old ++ in_groups (map T.listed xs.now)) }
+    {
+        for x in xs {
+            self.put(x.listed())?;
+        }
+        Ok(())
+    }
+
+    /// What was written.
+    pub fn as_slice(&self) -> &[u8]
+        ensures { result.now ≡ self.now }
+    {
+        &self.room[..self.len]
+    }
 }
 
-/// Whether all marks from a place on are these.
-pub fn marks_are(marks: &[u16], from: usize, right: u16) -> bool
-    ensures { result ≡ all_are marks.now from right }
+/// Whether all entries from a place on are this one, by their numbers.
+pub fn all_are<T: Listed>(xs: &[T], from: usize, x: &T) -> bool
+    ensures { result ≡ all_are (map T.listed xs.now) from (T.listed x.now) }
 {
-    let mut i = from;
-    while i < marks.len() {
-        if marks[i] != right {
-            return false;
-        }
-        i += 1;
-    }
-    true
+    let right = x.listed();
+    xs.iter().skip(from).all(|y| y.listed() == right)
 }

@@ -2,22 +2,19 @@
 ghost use Rattle.std.specs.Prelude.{◌≡◌, IfOk};
 ghost use Rattle.lists.specs.Outcomes.{Compared, OnlyIf, stretch, differs};
 
-use crate::words::say;
-use std::io;
+use std::{fmt, io};
 
 /// A place where two rows of bytes part, with what stands there.
-#[derive(Clone, Copy)]
+#[derive(Clone, Copy, Debug, PartialEq, Eq)]
 pub struct Parting {
     pub at: usize,
-    pub ours: u64,
-    pub right: u64,
+    pub ours: u8,
+    pub right: u8,
 }
 
-/// What a case comes to.
-#[derive(Clone, Copy)]
-pub enum Outcome {
-    /// All is as it ought to be.
-    Same,
+/// How a case differs from what it ought to come to.
+#[derive(Clone, Copy, Debug, PartialEq, Eq)]
+pub enum Difference {
     /// The first byte of the answer that is not as stored.
     Byte(Parting),
     /// The length of our answer, where it is not that of the stored one though each byte of the shorter is.
@@ -30,78 +27,55 @@ pub enum Outcome {
     Overrun,
 }
 
-fn wide(b: u8) -> u64
-    ensures { result ≡ b }
-{
-    b as u64
+/// What a case comes to: all is as it ought to be, or how it differs.
+pub type Outcome = Result<(), Difference>;
+
+impl fmt::Display for Difference {
+    fn fmt<W: fmt::Write>(&self, f: &mut fmt::Formatter<W>) -> fmt::Result {
+        match self {
+            Difference::Byte(Parting { at, ours, right }) => {
+                write!(f, "byte {at} of the answer: stored {right}, ours {ours}")
+            }
+            Difference::Length(n) => write!(f, "the answer's length, ours {n}"),
+            Difference::Refused(number) => write!(f, "refused by {number}"),
+            Difference::Taken => write!(f, "not refused as it ought to be"),
+            Difference::Overrun => write!(f, "an entry past the answer is not as it ought to be"),
+        }
+    }
 }
 
 /// Holds our bytes to the right ones.
 pub fn compare(ours: &[u8], right: &[u8]) -> Outcome
-    ensures { Compared ours.now right.now result }
+    ensures parts { Compared ours.now right.now result }
+    ensures same { OnlyIf (ours.now ≡ right.now) result }
 {
-    let mut i = 0;
-    while i < ours.len() {
-        if right.len() <= i {
-            return Outcome::Length(ours.len());
-        }
-        let is = wide(ours[i]);
-        let ought = wide(right[i]);
-        if is != ought {
-            return Outcome::Byte(Parting {
-                at: i,
-                ours: is,
-                right: ought,
-            });
-        }
-        i += 1;
+    if let Some(at) = ours.iter().zip(right).position(|(is, ought)| is != ought) {
+        return Err(Difference::Byte(Parting {
+            at,
+            ours: ours[at],
+            right: right[at],
+        }));
     }
-    if i < right.len() {
-        return Outcome::Length(i);
+    if ours.len() != right.len() {
+        return Err(Difference::Length(ours.len()));
     }
-    Outcome::Same
+    Ok(())
 }
 
-/// Holds our bytes to those that stand in a list from one place to another.
-pub fn hold(ours: &[u8], list: &[u8], from: usize, to: usize) -> Outcome
-    ensures { OnlyIf (ours.now ≡ stretch from to list.now) result }
+/// What stands in a list from one place to another, as far as the list goes.
+pub fn stored(list: &[u8], from: usize, to: usize) -> &[u8]
+    ensures { result.now ≡ stretch from to list.now }
 {
-    if list.len() < to {
-        return Outcome::Length(ours.len());
-    }
-    if to < from {
-        return Outcome::Length(ours.len());
-    }
-    compare(ours, &list[from..to])
+    let end = to.min(list.len());
+    &list[from.min(end)..end]
 }
 
 /// Whether a case does not come to what it ought to; writes its line where that is so. Fails only where that cannot be written.
 pub fn tell<P: Print>(rt: &P, k: u64, outcome: Outcome) -> io::Result<bool>
     ensures { IfOk result (λ told. told ≡ differs outcome) }
 {
-    match outcome {
-        Outcome::Same => return Ok(false),
-        Outcome::Byte(p) => {
-            say(rt, b"case ", k, b": byte ")?;
-            say(rt, b"", p.at as u64, b" of the answer: stored ")?;
-            say(rt, b"", p.right, b", ours ")?;
-            say(rt, b"", p.ours, b"\n")?;
-        }
-        Outcome::Length(n) => {
-            say(rt, b"case ", k, b": the answer's length, ours ")?;
-            say(rt, b"", n as u64, b"\n")?;
-        }
-        Outcome::Refused(number) => {
-            say(rt, b"case ", k, b": refused by ")?;
-            say(rt, b"", number as u64, b"\n")?;
-        }
-        Outcome::Taken => say(rt, b"case ", k, b": not refused as it ought to be\n")?,
-        Outcome::Overrun => say(
-            rt,
-            b"case ",
-            k,
-            b": an entry past the answer is not as it ought to be\n",
-        )?,
+    if let Err(difference) = outcome {
+        println!(rt; "case {k}: {difference}")?;
     }
-    Ok(true)
+    Ok(outcome.is_err())
 }

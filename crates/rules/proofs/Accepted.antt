@@ -1,9 +1,9 @@
 -- What is refused and what is not: values, set and limits first, and then, for marking, the room; and what marking leaves in it.
 -- Assumes nothing.
-use mathlib.Core.Path.{◌≡◌, refl, sym, ap, ap₂, ◌∙◌}
+use mathlib.Core.Path.{◌≡◌, refl, sym, ap, ◌∙◌}
 use mathlib.Core.Bool.{Bool, true, false, not, ◌&&◌, cond}
 use mathlib.Core.List.{List, [], ◌∷◌}
-use Prim.Native.Nat.{ℕ, ◌-◌, ◌≤◌, ◌<◌}
+use Prim.Native.Nat.{ℕ, ◌≤◌, ◌<◌}
 use native.Mathlib.Omega.{arith}
 use borrow.Author.Tests.{lt-ltb, le-ltb, ltb-true, ltb-false, not-false, eq-eqb, ne_eqb, eqb-true, eqb-false}
 use lib.Dec.{ltb, eqb}
@@ -15,7 +15,8 @@ use Rattle.laws.specs.Refusals.{first_of}
 use Rattle.laws.specs.Front.{at_front}
 use Rattle.laws.proofs.Refusals.{Passed, numbers, first-append, first_else, were-passed}
 use Rattle.floats.specs.Finite.{all_finite}
-use Rattle.rules.specs.declared.Marked.{Marked}
+use Rattle.std.specs.Prelude.{Result}
+use Rattle.rules.specs.declared.Refusal.{Refusal}
 use Rattle.rules.specs.Finite.{finite_limits}
 use Rattle.rules.specs.Terms.{Terms}
 use Rattle.rules.specs.Lines.{width_wrong}
@@ -108,7 +109,7 @@ module _ (terms : Terms) (set : ℕ) (values : List Float) where
       by false e = answer-refused room (eqb-false _ 0 e)
 
   -- what marking answered there
-  pub refusal_is : (room : ℕ) → (length values ≤ most → length values ≤ room) → (r m : Marked)
+  pub refusal_is : {A : Type 0} (room : ℕ) → (length values ≤ most → length values ≤ room) → (r m : Result A Refusal)
       → numbered r ≡ answer_of terms set values room → r ≡ m → refusal terms set values ≡ numbered m
   refusal_is room holds r m told is = sym (room-enough room holds) ∙ sym told ∙ ap numbered is
 
@@ -133,17 +134,16 @@ module _ (terms : Terms) (set : ℕ) (values : List Float) where
 pub record Made (terms : Terms) (set : ℕ) (values : List Float) (old now : List ℕ) : Type 0 where
   pub none : refusal terms set values ≡ 0
   pub room : length values ≤ length old
-  pub front : take (length values - 0) now ≡ marks_of terms set values
+  pub front : take (length values) now ≡ marks_of terms set values
 
-pub made : (terms : Terms) (set : ℕ) (values : List Float) (old now : List ℕ) (r : Marked)
+pub made : {A : Type 0} (terms : Terms) (set : ℕ) (values : List Float) (old now : List ℕ) (r : Result A Refusal)
     → (length values ≤ most → length values ≤ length old) → numbered r ≡ answer_of terms set values (length old)
     → numbered r ≡ 0 → now ≡ marks_after terms set values old → Made terms set values old now
 made terms set values old now r holds told zero left =
     let none = sym (room-enough terms set values (length old) holds) ∙ sym told ∙ zero in
     let room = holds (was-accepted terms set values none).few in
-    let all : length values - 0 ≡ length values = omega arith in
     record {
       none = none;
       room = room;
-      front = ap₂ take all left ∙ marks-front terms set values old (answer-done terms set values (length old) none room);
+      front = ap (take (length values)) left ∙ marks-front terms set values old (answer-done terms set values (length old) none room);
     }

@@ -4,9 +4,8 @@ use mathlib.Core.Bool.{cond}
 use Prim.Native.Nat.{ℕ, ◌<◌}
 use native.Mathlib.Omega.{arith}
 use lib.Dec.{eqb}
-use borrow.Author.Tests.{ne_eqb}
-use Rattle.rules.specs.declared.Marked.{Marked}
-use Rattle.rules.specs.declared.Marked.TheVariants.{Done, Refused}
+use Rattle.std.specs.Prelude.{Result, ⊤}
+use Rattle.numbers.proofs.Numbers.{Telling, numbered-one as one-number}
 use Rattle.rules.specs.declared.Refusal.{Refusal}
 use Rattle.rules.specs.declared.Refusal.TheVariants.{TooMany, Stops, SetTooLarge, WidthMode, NotFinite, TooShort}
 use Rattle.rules.specs.Marking.{number, numbered}
@@ -32,14 +31,11 @@ number-above WidthMode = omega arith
 number-above NotFinite = omega arith
 number-above TooShort = omega arith
 
--- the answer of a number
-marked : ℕ → Marked
-marked n = cond (eqb n 0) Done (Refused (refusal_of n))
+pub refusal-one : (a b : Refusal) → number a ≡ number b → a ≡ b
+refusal-one a b e = sym (refusal-again a) ∙ ap refusal_of e ∙ refusal-again b
 
-marked-again : (a : Marked) → marked (numbered a) ≡ a
-unfolding marked
-marked-again Done = refl
-marked-again (Refused why) = simp (ne_eqb (number why) 0 (omega (arith, number-above why))) (ap Refused (refusal-again why))
+pub tells : Telling number
+tells = record { not_done = λ why e. omega (arith, number-above why, e); one = refusal-one }
 
-pub numbered-one : (a b : Marked) → numbered a ≡ numbered b → a ≡ b
-numbered-one a b e = sym (marked-again a) ∙ ap marked e ∙ marked-again b
+pub numbered-one : (a b : Result ⊤ Refusal) → numbered a ≡ numbered b → a ≡ b
+numbered-one = one-number tells (λ a b. refl)

@@ -4,7 +4,7 @@ use mathlib.Core.Path.{◌≡◌, refl, sym, ap, ap₂, ◌∙◌, fun_ext}
 use mathlib.Core.Bool.{Bool, true, false, ◌&&◌, ◌||◌, cond, or-false, or-true}
 use mathlib.Core.List.{List, [], ◌∷◌, ◌++◌}
 use Prim.Native.Nat.{ℕ, zero, suc, ◌-◌, ◌+◌, ◌≤◌, ◌<◌}
-use native.Mathlib.Nat.{zero-add, sub-zero}
+use native.Mathlib.Nat.{zero-add}
 use native.Mathlib.Omega.{arith}
 use borrow.Author.Tests.{le-leb, lt-leb, leb-true, leb-false, lt-ltb, ltb-true, ltb-false, eq-eqb, ne_eqb, eqb-true, eqb-false}
 use lib.Bits.{bit_and, and_comm}
@@ -276,14 +276,14 @@ module _ (l : Lines) (set : ℕ) (values : List Float) where
 
   -- the marks were lent, and what reaches over the stops taken out of them
   pub parted : (stops : List ℕ) (moving : Bool) (old filled part : List ℕ) → filled ≡ at_front (marks_by unbroken l set values) old
-      → part ≡ by_stops cut_marks stops moving (take (length values - 0) (drop 0 filled))
-      → take 0 filled ++ (part ++ drop (length values - 0) (drop 0 filled)) ≡ at_front (marks_by (cut_at stops moving) l set values) old
+      → part ≡ by_stops cut_marks stops moving (take (length values) filled)
+      → part ++ drop (length values) filled ≡ at_front (marks_by (cut_at stops moving) l set values) old
   parted stops moving old filled part was is =
       let n = length values in
       let before = marks_by unbroken l set values in
       let long : length before ≡ n = length-tabulate (marks_at unbroken l set values) n in
       let rest = drop (length before) old in
-      let lent_is : take (n - 0) filled ≡ before = ap₂ take (sub-zero n) was ∙ take_at before rest n long in
-      let rest-is : drop (n - 0) filled ≡ rest = ap₂ drop (sub-zero n) was ∙ drop_at before rest n long in
+      let lent_is : take n filled ≡ before = ap (take n) was ∙ take_at before rest n long in
+      let rest-is : drop n filled ≡ rest = ap (drop n) was ∙ drop_at before rest n long in
       ap₂ ◌++◌ (is ∙ ap (by_stops cut_marks stops moving) lent_is ∙ marks-stops stops moving)
       (rest-is ∙ ap (λ (k : ℕ). drop k old) (long ∙ sym (length-tabulate (marks_at (cut_at stops moving) l set values) n)))

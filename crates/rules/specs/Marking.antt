@@ -1,16 +1,15 @@
 -- What a mark means, and what marking answers and leaves in the lent slice (01, 'The nine tests', 'Numbers a call may give back'; 02, R-1
 -- and R-5). Definitions only.
-use Rattle.std.specs.Prelude.{Bool, not, ◌&&◌, cond, List, [], ◌∷◌, ◌++◌, ℕ, zero, suc, leb, ltb, eqb, Float, length, take, get_or}
+use Rattle.std.specs.Prelude.{Bool, not, ◌&&◌, cond, List, [], ◌∷◌, ◌++◌, ℕ, zero, suc, leb, ltb, eqb, Float, length, take, get_or, Result}
 use Rattle.std.specs.Float.{nan}
 use Rattle.laws.specs.Refusals.{first_of}
 use Rattle.laws.specs.Lists.{tabulate}
 use Rattle.laws.specs.Front.{at_front}
+use Rattle.numbers.specs.Numbers as numbers
 use Rattle.stops.specs.Stops.{cut_at, stops_wrong, main_points}
 use Rattle.sets.specs.declared.Test.{Test}
 use Rattle.sets.specs.Sets.{has, set_of, too_large}
 use Rattle.rules.specs.declared.Lines.{Lines}
-use Rattle.rules.specs.declared.Marked.{Marked}
-use Rattle.rules.specs.declared.Marked.TheVariants.{Done, Refused}
 use Rattle.rules.specs.declared.Refusal.{Refusal}
 use Rattle.rules.specs.declared.Refusal.TheVariants.{TooMany, Stops, SetTooLarge, WidthMode, NotFinite, TooShort}
 use Rattle.rules.specs.Terms.{Terms}
@@ -65,9 +64,8 @@ number WidthMode = 21
 number NotFinite = 3
 number TooShort = 6
 
-abbrev pub numbered : Marked → ℕ
-numbered Done = 0
-numbered (Refused why) = number why
+abbrev pub numbered : {A : Type 0} → Result A Refusal → ℕ
+numbered = numbers.numbered number
 
 -- What marking, checking and writing refuse first: 5, 15, 4, 21, 3 for limits, 3 for values.
 unfoldable pub ahead : Terms → ℕ → List Float → List (Bool × ℕ)

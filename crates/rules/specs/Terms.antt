@@ -2,6 +2,7 @@
 -- stops of its main series, and whether it is itself that of the moving ranges (02, R-1). Definitions only.
 use Rattle.std.specs.Prelude.{Bool, false, List, [], ℕ}
 use Rattle.rules.specs.declared.Limits.{Limits}
+use Rattle.rules.specs.declared.Terms.{Terms as Lent}
 
 pub record Terms : Type 0 where
   pub limits : Limits
@@ -19,3 +20,7 @@ alone l width = under l width [] false
 -- and in the default mode
 abbrev pub unstopped : Limits → Terms
 unstopped l = alone l 0
+
+-- what a caller lends
+abbrev pub told : Lent → Terms
+told lent = under lent.limits lent.width lent.stops.now lent.moving

@@ -8,9 +8,10 @@ ghost use Rattle.std.specs.Prelude.{◌≡◌, length};
 ghost use Rattle.rules.specs.Lines.{widths_of, lines_of};
 ghost use Rattle.rules.specs.Tests.{window};
 ghost use Rattle.rules.specs.Finite.{finite_limits};
-ghost use Rattle.rules.specs.Terms.{under};
+ghost use Rattle.rules.specs.Terms.{told};
 ghost use Rattle.rules.specs.Marking.{number, numbered, refusal, answer_of, marks_after};
 
+use numbers::Numbered;
 use sets::{RuleSet, Test};
 
 /// The most values of a series.
@@ -24,11 +25,26 @@ pub const SAME_WIDTHS: u64 = 0;
 pub const OWN_WIDTHS: u64 = 1;
 
 /// Control limits: the upper limit, the centre line, the lower limit.
-#[derive(Clone, Copy)]
+#[derive(Clone, Copy, Debug, PartialEq)]
 pub struct Limits {
     pub ucl: f64,
     pub cl: f64,
     pub lcl: f64,
+}
+
+/// What a series is asked under.
+#[derive(Clone, Copy)]
+pub struct Terms<'a> {
+    /// Its control limits.
+    pub limits: Limits,
+    /// The width mode: 0 ([`SAME_WIDTHS`]), where one and two sigma below the centre line are as wide as above it, or 1
+    /// ([`OWN_WIDTHS`]), where each side has the widths of its own limit.
+    pub width: u64,
+    /// The positions before which the belt stood still, of the main series where the values are its moving ranges. A window that
+    /// reaches over one does not show its pattern.
+    pub stops: &'a [usize],
+    /// Whether the values are moving ranges. Only windows of length one hold a moving range that straddles a stop.
+    pub moving: bool,
 }
 
 // The zone widths: one and two sigma above the centre line, and below it.
@@ -83,20 +99,13 @@ pub enum Refusal {
     TooShort,
 }
 
-/// What marking answers.
-#[derive(Clone, Copy)]
-pub enum Marked {
-    /// The marks stand at the front of the slice (0).
-    Done,
-    /// Nothing was written.
-    Refused(Refusal),
-}
+impl Numbered for Refusal {
+    ghost number = { number };
 
-impl Refusal {
     /// 01's number of the refusal.
-    pub fn number(self) -> u8
-        ensures { result ≡ number self }
-    {
+    ///
+    /// `Refusal::Stops.number()` is 15.
+    fn number(&self) -> u8 {
         match self {
             Refusal::TooMany => 5,
             Refusal::Stops => 15,
@@ -104,18 +113,6 @@ impl Refusal {
             Refusal::WidthMode => 21,
             Refusal::NotFinite => 3,
             Refusal::TooShort => 6,
-        }
-    }
-}
-
-impl Marked {
-    /// 01's number of the answer.
-    pub fn number(self) -> u8
-        ensures { result ≡ numbered self }
-    {
-        match self {
-            Marked::Done => 0,
-            Marked::Refused(why) => why.number(),
         }
     }
 }
@@ -178,37 +175,29 @@ pub fn lines_of(l: Limits, width: u64) -> Lines
     }
 }
 
-// What is refused before there is a room to look at: the first refusal that applies, or `Done`.
-fn ahead(
-    values: &[f64],
-    stops: &[usize],
-    moving: bool,
-    limits: Limits,
-    width: u64,
-    set: RuleSet,
-) -> Marked
-    ensures { numbered result ≡ refusal (under limits width stops.now moving) set.mask values.now }
+// What is refused before there is a room to look at: the first refusal that applies.
+fn ahead(values: &[f64], terms: Terms, set: RuleSet) -> Result<(), Refusal>
+    ensures { numbered result ≡ refusal (told terms.entry) set.mask values.now }
 {
-    let mask = set.mask;
     if MOST < values.len() {
-        return Marked::Refused(Refusal::TooMany);
+        return Err(Refusal::TooMany);
     }
-    if stops::wrong(stops, moving, values.len()) {
-        return Marked::Refused(Refusal::Stops);
+    if stops::wrong(terms.stops, terms.moving, values.len()) {
+        return Err(Refusal::Stops);
     }
-    if RuleSet::ALL < mask {
-        return Marked::Refused(Refusal::SetTooLarge);
+    if RuleSet::ALL < set.mask {
+        return Err(Refusal::SetTooLarge);
     }
-    if OWN_WIDTHS < width {
-        return Marked::Refused(Refusal::WidthMode);
+    if OWN_WIDTHS < terms.width {
+        return Err(Refusal::WidthMode);
     }
-    if !finite_limits(limits) {
-        return Marked::Refused(Refusal::NotFinite);
+    if !finite_limits(terms.limits) {
+        return Err(Refusal::NotFinite);
     }
     if !floats::all_finite(values) {
-        return Marked::Refused(Refusal::NotFinite);
+        return Err(Refusal::NotFinite);
     }
-    Marked::Done
+    Ok(())
 }
 
 /// Marks every position of a series: test b of the set is set in bit b of `marks[i]` exactly where the window of the
@@ -241,27 +230,16 @@ fn ahead(
 /// rules::mark(&[26.5; 9], &[], false, limits, 0, RuleSet::nelson(), &mut marks);   // 0, 0, 0, 0, 32, 32, 32, 160, 162
 /// rules::mark(&[26.5; 9], &[3], false, limits, 0, RuleSet::nelson(), &mut marks);  // 0, 0, 0, 0, 0, 0, 0, 32, 32
 /// ```
-pub fn mark(
-    values: &[f64],
-    stops: &[usize],
-    moving: bool,
-    limits: Limits,
-    width: u64,
-    set: RuleSet,
-    marks: &mut [u16],
-) -> Marked
-    ensures answer { numbered result ≡ answer_of (under limits width stops.now moving) set.mask values.now (length marks.old) }
-    ensures marks { marks.new ≡ marks_after (under limits width stops.now moving) set.mask values.now marks.old }
+pub fn mark(values: &[f64], terms: Terms, set: RuleSet, marks: &mut [u16]) -> Result<(), Refusal>
+    ensures answer { numbered result ≡ answer_of (told terms.entry) set.mask values.now (length marks.old) }
+    ensures marks { marks.new ≡ marks_after (told terms.entry) set.mask values.now marks.old }
 {
-    let refused = ahead(values, stops, moving, limits, width, set);
-    if refused.number() != 0 {
-        return refused;
-    }
-    if marks.len() < values.len() {
-        return Marked::Refused(Refusal::TooShort);
-    }
+    ahead(values, terms, set)?;
     let n = values.len();
-    codes::fill(lines_of(limits, width), set.mask, values, marks);
-    cuts::part(stops, moving, &mut marks[0..n]);
-    Marked::Done
+    if marks.len() < n {
+        return Err(Refusal::TooShort);
+    }
+    codes::fill(lines_of(terms.limits, terms.width), set.mask, values, marks);
+    cuts::part(terms.stops, terms.moving, &mut marks[..n]);
+    Ok(())
 }

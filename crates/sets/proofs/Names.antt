@@ -1,9 +1,10 @@
 -- Names of sets: the three spellings and no other are taken. Assumes nothing.
-use mathlib.Core.Path.{◌≡◌, refl, sym, ap, ap₂, ◌∙◌}
+use mathlib.Core.Path.{◌≡◌, refl, ap, ap₂}
 use mathlib.Core.Bool.{Bool, true, false, ◌&&◌, false≢true}
 use mathlib.Core.List.{List, [], ◌∷◌}
 use Prim.Native.Nat.{ℕ}
 use lib.Dec.{eqb}
+use lib.Pointwise.{pointwise}
 use borrow.Author.Tests.{eqb-true, eq-eqb}
 use Rattle.laws.specs.Refusals.{first_of}
 use Rattle.laws.proofs.Bools.{both}
@@ -25,14 +26,13 @@ same-one (x ∷ xs) (y ∷ ys) e =
     let holds = both (eqb x y) (same xs ys) e in
     ap₂ ◌∷◌ (eqb-true x y holds.0) (same-one xs ys holds.1)
 
--- a comparison that says yes just for equal names says this
-pub compared : (a b : List ℕ) (r : Bool) → (r ≡ true → a ≡ b) × (a ≡ b → r ≡ true) → same a b ≡ r
-compared a b true tells = ap (same a) (sym (tells.0 refl)) ∙ same_self a
-compared a b false tells = by (same a b) refl
-  where
-    by : (t : Bool) → same a b ≡ t → same a b ≡ false
-    by false e = e
-    by true e = absurd (false≢true (tells.1 (same-one a b e)))
+-- what the language compares two slices by
+pub pointwise-same : (a b : List ℕ) → pointwise eqb a b ≡ same a b
+unfolding same
+pointwise-same [] [] = refl
+pointwise-same [] (y ∷ ys) = refl
+pointwise-same (x ∷ xs) [] = refl
+pointwise-same (x ∷ xs) (y ∷ ys) = ap (λ (t : Bool). eqb x y && t) (pointwise-same xs ys)
 
 -- ---- the three names, compared in their order
 
@@ -73,5 +73,8 @@ pub other-named : (name : List ℕ) → (name ≡ shewhart → ⊥) → (name �
 other-named name p q r = none_named name (differs shewhart p) (differs nelson q) (differs western_electric r)
   where
     differs : (other : List ℕ) → (name ≡ other → ⊥) → same name other ≡ false
-    differs other ne =
-        compared name other false ((λ e. absurd (false≢true e)), (λ e. absurd (ne e)))
+    differs other ne = by (same name other) refl
+      where
+        by : (t : Bool) → same name other ≡ t → same name other ≡ false
+        by false e = e
+        by true e = absurd (ne (same-one name other e))

@@ -4,7 +4,7 @@
 ghost use Rattle.std.specs.Prelude.{◌≡◌, ◌^◌, ◌<◌, ◌≤◌, MatchResult};
 ghost use Rattle.sets.specs.declared.Refusal.TheVariants.{TooLarge};
 ghost use Rattle.sets.specs.Sets.{bit_of, test_at};
-ghost use Rattle.sets.specs.Calls.{number, chosen, contained, counted, with_test, without_test, has_test, how_many, same, set_named};
+ghost use Rattle.sets.specs.Calls.{number, chosen, contained, counted, with_test, without_test, has_test, how_many, set_named};
 
 use numbers::Numbered;
 
@@ -108,13 +108,6 @@ fn mask_of(t: Test) -> u16
     1 << t.bit()
 }
 
-// Whether a name is spelt as this word is.
-fn spelt(name: &[u8], word: &[u8]) -> bool
-    ensures { result ≡ same name.now word.now }
-{
-    check::same(name, word)
-}
-
 impl RuleSet {
     /// The mask of `shewhart()`.
     pub const SHEWHART: u16 = 1;
@@ -177,13 +170,13 @@ impl RuleSet {
     pub fn named(name: &[u8]) -> Result<RuleSet, Refusal>
         ensures { chosen result ≡ set_named name.now }
     {
-        if spelt(name, b"shewhart") {
+        if name == b"shewhart".as_slice() {
             return Ok(Self::shewhart());
         }
-        if spelt(name, b"nelson") {
+        if name == b"nelson".as_slice() {
             return Ok(Self::nelson());
         }
-        if spelt(name, b"western_electric") {
+        if name == b"western_electric".as_slice() {
             return Ok(Self::western_electric());
         }
         Err(Refusal::Unknown)

@@ -45,14 +45,11 @@ pub fn wrong(stops: &[usize], moving: bool, points: usize) -> bool
     ensures { result ≡ stops_wrong (main_points moving points) stops.now }
 {
     let mut last = 0;
-    let mut i = 0;
-    while i < stops.len() {
-        let p = stops[i];
+    for &p in stops {
         if (p <= last) | past_the_last(p, moving, points) {
             return true;
         }
         last = p;
-        i += 1;
     }
     false
 }
@@ -67,10 +64,8 @@ pub fn since(stops: &[usize], moving: bool, at: usize) -> usize
     ensures { result ≡ since (cut_at stops.now moving) at }
 {
     let mut first = 0;
-    let mut i = 0;
-    while i < stops.len() {
-        first = after_stop(first, stops[i], moving, at);
-        i += 1;
+    for &p in stops {
+        first = after_stop(first, p, moving, at);
     }
     first
 }

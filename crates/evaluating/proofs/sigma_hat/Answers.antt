@@ -1,16 +1,15 @@
 -- `sigma_hat` meets its contract: refused or done as both figures are, of which it is one. Assumes nothing.
-use Rattle.std.proofs.Common.{sym, ap, ◌∙◌}
-use Rattle.evaluating.specs.declared.Estimated.{Estimated}
-use Rattle.evaluating.specs.Sigma.{estimated}
+use Rattle.std.proofs.Common.{◌≡◌, ap, ◌∙◌, rules}
+use Rattle.std.specs.Prelude.{Ok, Err}
+use Rattle.evaluating.specs.Sigma.{figured}
 use Rattle.evaluating.proofs.Figures.{its-hat}
 use Rattle.evaluating.proofs.sigma_hat.Goals as goal
 
-pub returns-in-Refused : goal.returns-in-Refused
-returns-in-Refused c =
-    sym (ap (λ (e : Estimated). ((estimated e).0, (estimated e).1)) c.in-Refused.is)
-    ∙ its-hat _ c.estimate.result c.estimate.ensures
+pub returns-in_err-estimate : goal.returns-in_err-estimate
+returns-in_err-estimate c =
+    let told : c.from_residual.result ≡ Err c.in_err-estimate.field-0.0 = search rules in
+    ap figured told ∙ its-hat _ (Err c.in_err-estimate.field-0.0) c.in_err-estimate.ensures
 
-pub returns-in-Done : goal.returns-in-Done
-returns-in-Done c =
-    sym (ap (λ (e : Estimated). ((estimated e).0, (estimated e).1)) c.in-Done.is)
-    ∙ its-hat _ c.estimate.result c.estimate.ensures
+pub returns : goal.returns
+returns c =
+    its-hat _ (Ok c.in_ok-estimate.field-0) c.in_ok-estimate.ensures

@@ -1,35 +1,28 @@
 -- `limits::factor_for` meets its contract, by kind. Assumes nothing.
-use Rattle.std.proofs.Common.{sym, ◌∙◌}
+use Rattle.std.proofs.Common.{◌∙◌}
 use Rattle.evaluating.specs.Limits.{factor_for}
-use Rattle.charts.proofs.Cases.{kind_1, kind_2, kind_3}
-use Rattle.charts.proofs.Held.{column}
+use Rattle.evaluating.proofs.ByKind.{of_kind, size-of}
 use Rattle.evaluating.proofs.limits.factor_for.Goals as goal
 
-pub returns-then-c-eq-INDIVIDUALS : goal.returns-then-c-eq-INDIVIDUALS
+pub of_size-requires : goal.of_size-requires
+of_size-requires c =
+    size-of c.args.c c.requires (λ e. cc) c.in-Ranges.ensures
+
+pub of_size-requires-in-Deviations : goal.of_size-requires-in-Deviations
+of_size-requires-in-Deviations c =
+    size-of c.args.c c.requires (λ e. cc) c.in-Deviations.ensures
+
+pub returns-in-Individuals : goal.returns-in-Individuals
 unfolding factor_for
-returns-then-c-eq-INDIVIDUALS c =
-    sym (kind_1 c.args.c.kind _ _ _ c.if-c-eq-INDIVIDUALS.true)
+returns-in-Individuals c =
+    of_kind c.args.c.kind _ _ _ c.in-Individuals.ensures
 
-pub factor-requires : goal.factor-requires
-factor-requires c =
-    let args = c.args in
-    let pre = c.requires in
-    let size = column args.c pre.0 c.if-c-eq-INDIVIDUALS.false in (pre.1, size.0, size.1)
-
-pub returns-then-c-eq-X_BAR_R : goal.returns-then-c-eq-X_BAR_R
+pub returns-in-Ranges : goal.returns-in-Ranges
 unfolding factor_for
-returns-then-c-eq-X_BAR_R c =
-    let args = c.args in
-    c.factor.ensures ∙ sym (kind_2 args.c.kind _ _ _ c.if-c-eq-INDIVIDUALS.false c.if-c-eq-X_BAR_R.true)
+returns-in-Ranges c =
+    c.of_size.ensures ∙ of_kind c.args.c.kind _ _ _ c.in-Ranges.ensures
 
-pub factor-requires-2 : goal.factor-requires-2
-factor-requires-2 c =
-    let args = c.args in
-    let pre = c.requires in
-    let size = column args.c pre.0 c.if-c-eq-INDIVIDUALS.false in (pre.2, size.0, size.1)
-
-pub returns : goal.returns
+pub returns-in-Deviations : goal.returns-in-Deviations
 unfolding factor_for
-returns c =
-    let args = c.args in
-    c.factor-2.ensures ∙ sym (kind_3 args.c.kind _ _ _ c.if-c-eq-INDIVIDUALS.false c.if-c-eq-X_BAR_R.false)
+returns-in-Deviations c =
+    c.of_size-in-Deviations.ensures ∙ of_kind c.args.c.kind _ _ _ c.in-Deviations.ensures

@@ -1,5 +1,5 @@
 -- `limits::measure` meets its contract: the limits are those of the series as they stand at the front of the slices. Assumes nothing.
-use Rattle.std.proofs.Common.{length, ◌∙◌, ap₂, arith}
+use Rattle.std.proofs.Common.{length, ◌∙◌, ap₂}
 use lib.Ieee.{Float}
 use Rattle.charts.proofs.Held.{own_of}
 use Rattle.evaluating.specs.Asked.{asked}
@@ -7,33 +7,13 @@ use Rattle.evaluating.specs.Steps.{limits_from}
 use Rattle.evaluating.proofs.Measures.{front-series, from-series}
 use Rattle.evaluating.proofs.limits.measure.Goals as goal
 
-pub fill-requires : goal.fill-requires
-fill-requires c =
-    let pre = c.requires in (pre.0, omega arith, pre.1)
-
-pub fill-requires-2 : goal.fill-requires-2
-fill-requires-2 c =
-    let pre = c.requires in (pre.0, omega arith, pre.2)
-
-pub slice_bounds-mean_of-end : goal.slice_bounds-mean_of-end
-slice_bounds-mean_of-end c =
-    omega (arith, c.points_in-n.ensures, c.requires.1, c.fill.auto)
-
-pub slice_bounds-mean_of-end-2 : goal.slice_bounds-mean_of-end-2
-slice_bounds-mean_of-end-2 c =
-    omega (arith, c.points_in-k.ensures, c.requires.2, c.fill-2.auto)
-
 pub limits_from-requires : goal.limits_from-requires
 limits_from-requires c =
     own_of c.args.c (length c.args.values.now) c.requires.0
 
-pub returns : goal.returns
-returns c =
+pub returns-clause-limits : goal.returns-clause-limits
+returns-clause-limits c =
     let a = asked c.args.c c.args.values.now in
     let main = front-series a 0 _ c.args.main.now _ c.points_in-n.ensures c.fill.ensures in
     let dispersion = front-series a 1 _ c.args.dispersion.now _ c.points_in-k.ensures c.fill-2.ensures in
-    let means = ap₂ (λ (m d : Float). limits_from c.args.c m d) c.mean_of.ensures c.mean_of-2.ensures in record {
-      limits = c.limits_from.ensures ∙ means ∙ from-series a main dispersion;
-      main = c.fill.ensures;
-      dispersion = c.fill-2.ensures;
-    }
+    c.limits_from.ensures ∙ ap₂ (λ (m d : Float). limits_from c.args.c m d) c.mean_of.ensures c.mean_of-2.ensures ∙ from-series a main dispersion

@@ -1,63 +1,56 @@
 -- `series::dispersion_point` meets its contract, by kind. Assumes nothing.
-use Rattle.std.proofs.Common.{◌≡◌, ◌+◌, ◌<◌, length, arith}
-use Rattle.evaluating.proofs.SeriesPoints.{moving-reach, Reach, reach, dispersion-1, dispersion-2, dispersion-3}
-use Rattle.evaluating.proofs.series.dispersion_point.Goals.{Start}
+use Rattle.std.proofs.Common.{◌+◌, ◌<◌, length, ap, ◌∙◌, arith}
+use Rattle.arith.specs.Arith.{range_of, deviation_of}
+use Rattle.evaluating.specs.Series.{by_series, point_at}
+use Rattle.evaluating.proofs.ByKind.{of_kind, number-1}
+use Rattle.evaluating.proofs.SeriesPoints.{points-most, moving-reach}
+use Rattle.evaluating.proofs.series.dispersion_point.Goals.{In-Individuals}
 use Rattle.evaluating.proofs.series.dispersion_point.Goals as goal
 
 -- the values hold the observation and the next
-both : (c : Start) → c.args.c.kind ≡ 1 → c.args.i + 1 < length c.args.values.now
+both : (c : In-Individuals) → c.args.i + 1 < length c.args.values.now
 both c =
-    moving-reach c.args.c (length c.args.values.now) c.args.i c.requires.0 c.requires.1
-
--- the values hold the sample
-sample : (c : Start) → Reach c.args.c (length c.args.values.now) c.args.i
-sample c =
-    reach c.args.c 1 (length c.args.values.now) c.args.i c.requires.0 c.requires.1
-
-pub overflow_add-j : goal.overflow_add-j
-overflow_add-j c =
-    omega (arith, both (goal.at.overflow_add-j c).Start c.if-c-eq-INDIVIDUALS.true)
+    moving-reach c.args.c (length c.args.values.now) c.args.i c.requires.0 c.requires.1 (number-1 c.args.c.kind c.in-Individuals.ensures)
 
 pub offset_bounds-values-i : goal.offset_bounds-values-i
 offset_bounds-values-i c =
-    omega (arith, both (goal.at.offset_bounds-values-i c).Start c.if-c-eq-INDIVIDUALS.true)
+    omega (arith, both (goal.at.offset_bounds-values-i c).In-Individuals)
 
 pub bounds-values-i : goal.bounds-values-i
 bounds-values-i c =
-    omega (arith, both (goal.at.bounds-values-i c).Start c.if-c-eq-INDIVIDUALS.true)
+    omega (arith, both (goal.at.bounds-values-i c).In-Individuals)
 
-pub offset_bounds-values-j : goal.offset_bounds-values-j
-offset_bounds-values-j c =
-    omega (arith, both (goal.at.offset_bounds-values-j c).Start c.if-c-eq-INDIVIDUALS.true)
+pub overflow_add-i : goal.overflow_add-i
+overflow_add-i c =
+    omega (arith, both (goal.at.overflow_add-i c).In-Individuals)
 
-pub bounds-values-j : goal.bounds-values-j
-bounds-values-j c =
-    both (goal.at.bounds-values-j c).Start c.if-c-eq-INDIVIDUALS.true
+pub offset_bounds-values-i-in-Individuals : goal.offset_bounds-values-i-in-Individuals
+offset_bounds-values-i-in-Individuals c =
+    omega (arith, both (goal.at.offset_bounds-values-i-in-Individuals c).In-Individuals)
 
-pub returns-then-c-eq-INDIVIDUALS : goal.returns-then-c-eq-INDIVIDUALS
-returns-then-c-eq-INDIVIDUALS c =
-    dispersion-1 c.args.c c.args.values.now c.args.i c.if-c-eq-INDIVIDUALS.true c.moving_range.ensures
+pub bounds-values-i-in-Individuals : goal.bounds-values-i-in-Individuals
+bounds-values-i-in-Individuals c =
+    both (goal.at.bounds-values-i-in-Individuals c).In-Individuals
 
-pub overflow_mul-at : goal.overflow_mul-at
-overflow_mul-at c =
-    omega (arith, sample (goal.at.overflow_mul-at c).Start)
+pub sample_at-requires : goal.sample_at-requires
+sample_at-requires c =
+    (c.requires.0, omega (arith, points-most c.args.c 1, c.requires.1))
 
-pub overflow_add-end : goal.overflow_add-end
-overflow_add-end c =
-    omega (arith, sample (goal.at.overflow_add-end c).Start)
+pub sample_at-requires-in-Deviations : goal.sample_at-requires-in-Deviations
+sample_at-requires-in-Deviations c =
+    (c.requires.0, omega (arith, points-most c.args.c 1, c.requires.1))
 
-pub offset_bounds-values-at : goal.offset_bounds-values-at
-offset_bounds-values-at c =
-    omega (arith, sample (goal.at.offset_bounds-values-at c).Start)
+pub returns-in-Individuals : goal.returns-in-Individuals
+unfolding point_at by_series
+returns-in-Individuals c =
+    c.moving_range.ensures ∙ of_kind c.args.c.kind _ _ _ c.in-Individuals.ensures
 
-pub slice_bounds-sample-end : goal.slice_bounds-sample-end
-slice_bounds-sample-end c =
-    omega (arith, sample (goal.at.slice_bounds-sample-end c).Start)
+pub returns-in-Ranges : goal.returns-in-Ranges
+unfolding point_at by_series
+returns-in-Ranges c =
+    c.range_of.ensures ∙ ap range_of c.sample_at.ensures ∙ of_kind c.args.c.kind _ _ _ c.in-Ranges.ensures
 
-pub returns-then-c-eq-X_BAR_R : goal.returns-then-c-eq-X_BAR_R
-returns-then-c-eq-X_BAR_R c =
-    dispersion-2 c.args.c c.args.values.now c.args.i c.if-c-eq-INDIVIDUALS.false c.if-c-eq-X_BAR_R.true c.range_of.ensures
-
-pub returns : goal.returns
-returns c =
-    dispersion-3 c.args.c c.args.values.now c.args.i c.if-c-eq-INDIVIDUALS.false c.if-c-eq-X_BAR_R.false c.deviation_of.ensures
+pub returns-in-Deviations : goal.returns-in-Deviations
+unfolding point_at by_series
+returns-in-Deviations c =
+    c.deviation_of.ensures ∙ ap deviation_of c.sample_at-in-Deviations.ensures ∙ of_kind c.args.c.kind _ _ _ c.in-Deviations.ensures

@@ -1,16 +1,20 @@
 -- `RuleSet::with` meets its contract: the test's mask is added by or. Assumes nothing.
-use mathlib.Core.Path.{sym}
-use Rattle.sets.specs.Calls.{with_test}
+use mathlib.Core.Path.{◌≡◌, sym, ap, ◌∙◌}
+use Rattle.std.specs.Prelude.{Err}
+use Rattle.std.proofs.Common.{rules}
+use Rattle.sets.specs.declared.Refusal.TheVariants.{TooLarge}
+use Rattle.sets.specs.Calls.{chosen, with_test}
 use Rattle.sets.proofs.Members.{too_large}
 use Rattle.sets.proofs.Masks.{with-is}
 use Rattle.sets.proofs.RuleSet.with.Goals as goal
 
-pub returns-then-mask-gt-ALL : goal.returns-then-mask-gt-ALL
+pub returns-in_err-mask : goal.returns-in_err-mask
 unfolding with_test
-returns-then-mask-gt-ALL c =
-    sym (too_large c.args.self.mask _ _ c.if-mask-gt-ALL.true)
+returns-in_err-mask c =
+    let told : c.from_residual.result ≡ Err TooLarge = search rules in
+    ap chosen told ∙ sym (too_large c.args.self.mask _ _ c.in_err-mask.ensures.1)
 
 pub returns : goal.returns
 returns c =
-    let args = c.args in
-    with-is args.self.mask args.t c.mask_of.result c.mask_of.ensures c.if-mask-gt-ALL.false
+    let kept : c.in_ok-mask.mask ≡ c.args.self.mask = c.in_ok-mask.ensures.0 in
+    rw kept (with-is c.args.self.mask c.args.t c.mask_of.result c.mask_of.ensures (rw (sym kept) c.in_ok-mask.ensures.1))
