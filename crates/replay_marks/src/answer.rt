@@ -14,9 +14,10 @@ const LONGEST: usize = 8193;
 fn put(ours: &mut Bytes<LONGEST>, stopped: bool, number: u8, marks: &[u16]) -> Result<(), TooShort>
     ensures { OnOk result (ours.new ≡ ours.old ++ in_groups (answer_bytes stopped number marks.now)) }
 {
-    if stopped {
-        ours.put(u64::from(number))?;
+    if !stopped {
+        return ours.put_row(marks);
     }
+    ours.put(u64::from(number))?;
     ours.put_row(marks)
 }
 
