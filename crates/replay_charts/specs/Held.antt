@@ -1,5 +1,5 @@
 -- What of a chart's answers is as it ought to be. Definitions only.
-use Rattle.std.specs.Prelude.{Result, ◌≡◌, Bool, true, cond, ◌&&◌, ◌||◌, List, ℕ, eqb, Float, take}
+use Rattle.std.specs.Prelude.{Result, ◌≡◌, Bool, true, cond, ◌&&◌, ◌||◌, List, ℕ, eqb, take}
 use Rattle.std.specs.Float.{binary64}
 use Rattle.std.specs.Float.Ieee.{to_bits}
 use Rattle.laws.specs.Bools.{one}

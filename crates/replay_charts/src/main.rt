@@ -187,8 +187,8 @@ fn refused_alike(ours: Answers) -> bool
 
 // Holds all that a chart answers and leaves.
 fn hold(stored: &[u8], ours: Answers, left: Left, slices: Series) -> Outcome
-    requires n_in_bounds { (left.n ≤ length slices.entry.main.now) × (left.d ≤ length slices.entry.dispersion.now) }
-    requires n_in_bounds_2 { (left.n ≤ length slices.entry.main_marks.now) × (left.d ≤ length slices.entry.dispersion_marks.now) }
+    requires n_in_bounds { (left.n ≤ length slices.main.now) × (left.d ≤ length slices.dispersion.now) }
+    requires n_in_bounds_2 { (left.n ≤ length slices.main_marks.now) × (left.d ≤ length slices.dispersion_marks.now) }
     ensures { OnlyIf (Held stored.now ours left (rows slices.entry)) result }
 {
     if !refused_alike(ours) {
