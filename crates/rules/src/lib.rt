@@ -83,7 +83,7 @@ pub fn window(t: Test) -> usize
 }
 
 /// Why a series is not marked, checked or written, or a value not taken.
-#[derive(Clone, Copy)]
+#[derive(Clone, Copy, Debug, PartialEq, Eq)]
 pub enum Refusal {
     /// There are more than 4,096 values (5).
     TooMany,
