@@ -1,6 +1,5 @@
 -- `sheets::reader::read_entries` meets its contract: `Onward` from the start is the invariant of its loop. Assumes nothing.
-use mathlib.Core.Path.{◌≡◌, sym, ap, ◌∙◌}
-use native.Mathlib.Omega.{arith}
+use mathlib.Core.Path.{◌≡◌, ap, ◌∙◌}
 use borrow.Author.Rules.{rules}
 use Rattle.std.specs.Prelude.{Err}
 use Rattle.sheets.specs.Steps.{Onward, tells}

@@ -1,6 +1,5 @@
 -- `sheets::reader::read_head` meets its contract: its numbers are those of `said_from`, in the same order. Assumes nothing.
 use mathlib.Core.Path.{◌≡◌, sym, ap, ◌∙◌}
-use native.Mathlib.Omega.{arith}
 use borrow.Author.Rules.{rules}
 use Rattle.std.specs.Prelude.{Err}
 use Rattle.sheets.specs.Said.{said_from}

@@ -1,5 +1,5 @@
 -- `sheets::writer::measure` meets its contract. `Measures` of proofs/Writing.antt is the invariant of its loop. Assumes nothing.
-use Rattle.sheets.proofs.Writing.{measures-start, measures-skip, measures-put, measures-end}
+use Rattle.sheets.proofs.Writing.{measures-skip, measures-put, measures-end}
 use Rattle.sheets.proofs.writer.measure.Goals.{then-m-eq0, else-m-eq0}
 use Rattle.sheets.proofs.writer.measure.Goals as goal
 

@@ -1,5 +1,5 @@
 -- `sheets::writer::write_entries` meets its contract. `Writes` of proofs/Writing.antt is the invariant of its loop. Assumes nothing.
-use Rattle.sheets.proofs.Writing.{writes_start, writes-skip, writes-room, writes-on, writes-count, writes_end}
+use Rattle.sheets.proofs.Writing.{writes-skip, writes-room, writes-on, writes-count, writes_end}
 use Rattle.sheets.proofs.writer.write_entries.Goals.{then-m-eq0, else-m-eq0}
 use Rattle.sheets.proofs.writer.write_entries.Goals as goal
 
