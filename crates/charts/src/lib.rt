@@ -4,7 +4,7 @@
 mod records;
 
 ghost use Rattle.std.specs.Prelude.{◌≡◌};
-ghost use Rattle.charts.specs.Records.{number, changed, no_chart, new_of, with_set_of, with_stops_of, add_of, values_after, own_wrong, record_wrong};
+ghost use Rattle.charts.specs.Records.{number, kind_wrong, changed, no_chart, new_of, with_set_of, with_stops_of, add_of, values_after, own_wrong, record_wrong};
 
 use numbers::Numbered;
 use rules::MOST;
@@ -100,7 +100,7 @@ impl Chart {
     pub fn new(kind: u64, size: usize) -> Result<Chart, Refusal>
         ensures { changed no_chart result ≡ new_of kind size }
     {
-        if records::kind_wrong(kind) {
+        if Chart::kind_wrong(kind) {
             return Err(Refusal::Record);
         }
         if records::size_wrong(kind, size) {
@@ -115,6 +115,15 @@ impl Chart {
         })
     }
 
+    /// Whether a number is that of no kind.
+    ///
+    /// Of [`X_BAR_S`] it is `false`, and of 4 it is `true`.
+    pub fn kind_wrong(kind: u64) -> bool
+        ensures { result ≡ kind_wrong kind }
+    {
+        (kind < INDIVIDUALS) | (X_BAR_S < kind)
+    }
+
     /// Whether the record is no chart by its own numbers (14).
     ///
     /// Of a chart that [`Chart::new`] made it is `false`.
@@ -122,7 +131,7 @@ impl Chart {
     pub fn own_wrong(self) -> bool
         ensures { result ≡ own_wrong self }
     {
-        let kind = records::kind_wrong(self.kind);
+        let kind = Chart::kind_wrong(self.kind);
         let size = records::size_wrong(self.kind, self.size);
         kind | size | (MOST < self.count) | (RuleSet::ALL < self.set.mask)
     }

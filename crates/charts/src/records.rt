@@ -1,14 +1,8 @@
-// Which kinds and sizes a record may have.
+// Which sizes a record may have.
 ghost use Rattle.std.specs.Prelude.{◌≡◌};
-ghost use Rattle.charts.specs.Records.{kind_wrong, size_wrong};
+ghost use Rattle.charts.specs.Records.{size_wrong};
 
-use super::{INDIVIDUALS, X_BAR_S};
-
-pub fn kind_wrong(kind: u64) -> bool
-    ensures { result ≡ kind_wrong kind }
-{
-    (kind < INDIVIDUALS) | (X_BAR_S < kind)
-}
+use super::INDIVIDUALS;
 
 #[tactic(auto, unfolding(crate::specs::Records::size_wrong, crate::specs::Records::by_kind))]
 pub fn size_wrong(kind: u64, size: usize) -> bool

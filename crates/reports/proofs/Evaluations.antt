@@ -1,10 +1,10 @@
 -- Evaluating the chart of a flow file: nothing but 8 and 7 can be refused once its values are finite, and each answer is what the report
 -- tells. Assumes nothing.
-use mathlib.Core.Path.{◌≡◌, refl, sym, ap, ap₂, ◌∙◌}
+use mathlib.Core.Path.{◌≡◌, refl, sym, ap, ◌∙◌}
 use mathlib.Core.Bool.{Bool, true, false, not}
 use mathlib.Core.List.{List}
 use Prim.Native.Nat.{ℕ, ◌+◌, ◌-◌, ◌*◌, ◌≤◌}
-use native.Mathlib.Nat.{mul-le-mul_left, le_of_eq, sub-zero}
+use native.Mathlib.Nat.{mul-le-mul_left, le_of_eq}
 use native.Mathlib.Decide.{ℕ_discrete}
 use native.Mathlib.Omega.{arith}
 use borrow.Author.Tests.{le-ltb, eq-eqb, ne_eqb, eqb-true, not-false}
@@ -27,7 +27,7 @@ use Rattle.charts.specs.Records.{number, by_kind, record_wrong}
 use Rattle.charts.proofs.Cases.{kind_1, subgroups}
 use Rattle.charts.proofs.Held.{own}
 use Rattle.evaluating.specs.declared.Evaluation.{Evaluation}
-use Rattle.evaluating.specs.declared.Evaluated.TheVariants.{Done, Refused}
+use Rattle.std.specs.Prelude.{Ok, Err}
 use Rattle.evaluating.specs.Asked as asking
 use Rattle.evaluating.specs.Asked.{Asked}
 use Rattle.evaluating.specs.Series.{points_in, series_of}
@@ -85,14 +85,14 @@ module _ (a : Asked) (h : Legal a.chart) (whole : length a.values ≡ size a.cha
   unfolding evaluate_of
   evaluated-is = ap (λ (n : ℕ). answer_for n a) same-refusal
 
-  pub refused-so : (why : Refusal) → evaluated (Refused why) ≡ evaluate_of a (short a.chart) → number why ≡ refusal_of a
+  pub refused-so : (why : Refusal) → evaluated (Err why) ≡ evaluate_of a (short a.chart) → number why ≡ refusal_of a
   refused-so why e = ap (λ (r : Answer). r.number) (e ∙ evaluated-is) ∙ number_is (refusal_of a) a
 
-  module _ (e : Evaluation) (is : evaluated (Done e) ≡ evaluate_of a (short a.chart)) where
+  module _ (e : Evaluation) (is : evaluated (Ok e) ≡ evaluate_of a (short a.chart)) where
     pub done-so : refusal_of a ≡ 0
     done-so = sym (ap (λ (r : Answer). r.number) (is ∙ evaluated-is) ∙ number_is (refusal_of a) a)
 
-    all : evaluated (Done e) ≡ answer_for 0 a
+    all : evaluated (Ok e) ≡ answer_for 0 a
     all = is ∙ evaluated-is ∙ ap (λ (n : ℕ). answer_for n a) done-so
 
     pub main-limits : e.main ≡ limits_of a 0
@@ -177,6 +177,6 @@ unfolding series_marks marks_of
 length-marks a s = length-tabulate _ (length (series_of a s)) ∙ length-series a s
 
 pub marks-left : (a : Asked) (s : ℕ) (old now : List ℕ) (n : ℕ) → now ≡ lent_after 0 0 (series_marks a s) old
-    → n ≡ points_in a.chart s → take (n - 0) now ≡ series_marks a s
+    → n ≡ points_in a.chart s → take n now ≡ series_marks a s
 unfolding lent_after
-marks-left a s old now n e k = ap₂ take (sub-zero n) e ∙ take_at (series_marks a s) _ n (length-marks a s ∙ sym k)
+marks-left a s old now n e k = ap (take n) e ∙ take_at (series_marks a s) _ n (length-marks a s ∙ sym k)

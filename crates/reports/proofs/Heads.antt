@@ -8,14 +8,13 @@ use native.Mathlib.Omega.{arith}
 use borrow.Author.Tests.{ltb-false, le-ltb}
 use lib.Dec.{ltb}
 use Rattle.laws.proofs.Bools.{or_left, or_right}
-use Rattle.groups.specs.declared.Reading.TheVariants.{Number}
-use Rattle.groups.specs.Groups.{number_at}
+use Rattle.std.specs.Prelude.{Ok, Err}
+use Rattle.groups.specs.Groups.{number_at, number_is}
 use Rattle.groups.proofs.Onward.{in_place}
 use Rattle.laws.specs.Refusals.{first_of}
 use Rattle.sets.specs.Sets.{too_large}
 use Rattle.charts.specs.declared.Chart.{Chart}
 use Rattle.charts.specs.declared.Refusal.{Refusal}
-use Rattle.charts.specs.declared.Changed.TheVariants.{Done, Refused}
 use Rattle.charts.specs.Records.{number, changed, no_chart, new_chart, new_of, with_set, with_count, kind_wrong, size_wrong, own_wrong}
 use Rattle.charts.proofs.Answers.{number-some}
 use Rattle.reports.specs.Flow.{Said, refused, count_wrong}
@@ -26,7 +25,7 @@ use Rattle.reports.specs.Steps.{Legal}
 
 -- a number stands there, and its value is not wrong
 pub record Passed (wrong : ℕ → Bool) (s : List ℕ) (at v next : ℕ) : Type 0 where
-  pub stands : number_at s at ≡ Number v next
+  pub stands : number_at s at ≡ number_is v next
   pub right : wrong v ≡ false
 
 module _ (why : ℕ) (wrong : ℕ → Bool) (s : List ℕ) (at : ℕ) (rest : ℕ → ℕ → Said) where
@@ -56,14 +55,14 @@ module _ (kind size : ℕ) (k : kind_wrong kind ≡ false) where
   unfolding new_of first_of
   new_is = rw k refl
 
-  pub chart-made : (c : Chart) → changed no_chart (Done c) ≡ new_of kind size → (size_wrong kind size ≡ false) × (c ≡ new_chart kind size)
+  pub chart-made : (c : Chart) → changed no_chart (Ok c) ≡ new_of kind size → (size_wrong kind size ≡ false) × (c ≡ new_chart kind size)
   chart-made c e = by (size_wrong kind size) (e ∙ new_is)
     where
       by : (b : Bool) → (0, c) ≡ cond {A = ℕ × Chart} b (1, no_chart) (0, new_chart kind size) → (b ≡ false) × (c ≡ new_chart kind size)
       by true z = absurd (let n = ap (λ (p : ℕ × Chart). p.0) z in omega arith)
       by false z = (refl, ap (λ (p : ℕ × Chart). p.1) z)
 
-  pub none_made : (why : Refusal) → changed no_chart (Refused why) ≡ new_of kind size → size_wrong kind size ≡ true
+  pub none_made : (why : Refusal) → changed no_chart (Err why) ≡ new_of kind size → size_wrong kind size ≡ true
   none_made why e = by (size_wrong kind size) (e ∙ new_is)
     where
       by : (b : Bool) → (number why, no_chart) ≡ cond {A = ℕ × Chart} b (1, no_chart) (0, new_chart kind size) → b ≡ true

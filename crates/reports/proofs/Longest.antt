@@ -23,8 +23,8 @@ use Rattle.charts.proofs.Held.{own}
 use Rattle.evaluating.specs.Asked.{asked}
 use Rattle.evaluating.specs.Limits.{limits_of}
 use Rattle.evaluating.specs.Evaluating.{too_few, sound, series_marks}
-use Rattle.reports.specs.declared.Reported.{Reported}
-use Rattle.reports.specs.declared.Reported.TheVariants.{Text}
+use Rattle.std.specs.Prelude.{Result, Ok}
+use Rattle.groups.specs.declared.TooShort.{TooShort}
 use Rattle.reports.specs.Flow.{Said, refused, flow, number, before, values_from, count_wrong, head_from, flow_of}
 use Rattle.reports.specs.Text.{decimal, spaced, c_line, l_line, e_line, r_line, mark, v_line, v_lines, marks_in, listed, both_marks, chart_text}
 use Rattle.reports.specs.Report.{first_index, refusal_of, chart_report, text_on, text_of, reported}
@@ -221,8 +221,8 @@ module _ (s room : List ℕ) (h : longest ≤ length room) where
   enough : leb (length (text_of s)) (length room) ≡ true
   enough = le-leb (length (text_of s)) (length room) (omega (arith, text-short s))
 
-  pub always-text : (r : Reported) → reported r ≡ room_for (text_of s) (length room) → r ≡ Text (length (text_of s))
-  always-text r e = reported-one r (Text (length (text_of s))) (rw enough at e)
+  pub always-text : (r : Result ℕ TooShort) → reported r ≡ room_for (text_of s) (length room) → r ≡ Ok (length (text_of s))
+  always-text r e = reported-one r (Ok (length (text_of s))) (rw enough at e)
 
   pub always-written : (after : List ℕ) → after ≡ at_front_if_room (text_of s) room → after ≡ at_front (text_of s) room
   always-written after e = rw enough at e

@@ -9,8 +9,7 @@ use borrow.Author.Tests.{lt-ltb, le-ltb}
 use lib.Ieee.{Float, binary64, of_bits}
 use lib.ListN.{length, take, set, length-set}
 use lib.Seq.{take-suc-set}
-use Rattle.groups.specs.declared.Reading.TheVariants.{Number, Fault}
-use Rattle.groups.specs.Groups.{number_at}
+use Rattle.groups.specs.Groups.{number_at, number_is, fault_is}
 use Rattle.charts.specs.declared.Chart.{Chart}
 use Rattle.reports.specs.Flow.{Said, refused, flow, before, values_from}
 use Rattle.groups.proofs.Onward.{no_number, in_place}
@@ -54,14 +53,14 @@ module _ (s : List ℕ) (c : Chart) (n from : ℕ) (was room : List Float) (at i
     rest-is : n - i ≡ suc (n - (i + 1))
     rest-is = omega arith
 
-    pub reads-fault : (p : ℕ) → number_at s at ≡ Fault p → values_from s c n from ≡ refused 12
+    pub reads-fault : (p : ℕ) → number_at s at ≡ fault_is p → values_from s c n from ≡ refused 12
     unfolding values_from
     reads-fault p e =
         r.goes
         ∙ ap (ahead (take i room)) (ap (λ (k : ℕ). values_from s c k at) rest-is ∙ no_number (refused 12) (refused 12) (λ v. true) s at _ p e)
         ∙ ahead-refused (take i room) 12
 
-    pub reads-goes-on : (v next : ℕ) → number_at s at ≡ Number v next → n ≤ length was
+    pub reads-goes-on : (v next : ℕ) → number_at s at ≡ number_is v next → n ≤ length was
         → Reads s c n from was (set room i (of_bits binary64 v)) next (i + 1)
     unfolding values_from
     reads-goes-on v next e fits = record {

@@ -1,15 +1,15 @@
 -- The report of any bytes: its text, and what the call answers (01, 'The report program'; 'Numbers a call may give back', row 6).
 -- Definitions only.
-use Rattle.std.specs.Prelude.{not, cond, List, [], ◌∷◌, ℕ, eqb}
+use Rattle.std.specs.Prelude.{not, cond, List, [], ◌∷◌, ℕ, eqb, Result}
 use Rattle.laws.specs.Refusals.{first_of}
+use Rattle.groups.specs.declared.TooShort.{TooShort}
+use Rattle.groups.specs.Groups.{written}
 use Rattle.floats.specs.Finite.{all_finite}
 use Rattle.charts.specs.declared.Chart.{Chart}
 use Rattle.charts.specs.Records.{by_kind}
 use Rattle.evaluating.specs.Asked.{Asked, asked}
 use Rattle.evaluating.specs.Limits.{limits_of}
 use Rattle.evaluating.specs.Evaluating.{too_few, sound, series_marks}
-use Rattle.reports.specs.declared.Reported.{Reported}
-use Rattle.reports.specs.declared.Reported.TheVariants.{Text, TooShort}
 use Rattle.reports.specs.Flow.{Said, refused, flow, flow_of}
 use Rattle.reports.specs.Text.{both_marks, chart_text, r_line}
 
@@ -41,6 +41,5 @@ text_of s = text_on (flow_of s)
 -- ---- the answer
 
 -- 01's number, and the text's length
-abbrev pub reported : Reported → ℕ × ℕ
-reported (Text n) = (0, n)
-reported TooShort = (6, 0)
+abbrev pub reported : Result ℕ TooShort → ℕ × ℕ
+reported = written

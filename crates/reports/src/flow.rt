@@ -1,128 +1,119 @@
 // Reading a flow file from bytes of any origin, number by number.
 ghost use Rattle.std.specs.Prelude.{◌≡◌, ◌≤◌, ◌*◌, length};
-ghost use Rattle.charts.specs.Records.{kind_wrong};
+ghost use Rattle.reports.specs.declared.flow.Refusal.TheVariants.{Form};
 ghost use Rattle.reports.specs.Flow.{values_from, head_from, flow_of, count_wrong};
-ghost use Rattle.reports.specs.Steps.{size, Legal, after_head, LegalHead, said_by, LegalFlow};
+ghost use Rattle.reports.specs.Steps.{number, size, Legal, after_head, LegalHead, said_by, said_flow, LegalFlow};
 
-use charts::{Changed, Chart};
-use groups::Reading;
+use charts::Chart;
+use groups::{Fault, Read, read_number};
+use numbers::Numbered;
 use rules::MOST;
 use sets::RuleSet;
 
-// What the numbers at the head come to: the chart and the place past them, or the number of a refusal.
+// Why some bytes are no flow file. The number is that of document 01.
 #[derive(Clone, Copy)]
-pub enum Head {
-    Names { chart: Chart, next: usize },
-    Halted(u8),
+pub enum Refusal {
+    // The size is not allowed for the kind (1).
+    Size,
+    // The set is over 511 (4).
+    Set,
+    // There are too many samples or values (5).
+    Count,
+    // A number's form, the kind, or the number of bytes (12).
+    Form,
 }
 
-// What a flow file comes to: the chart, its values being read, or the number of a refusal.
-#[derive(Clone, Copy)]
-pub enum Flow {
-    Read(Chart),
-    Refused(u8),
+impl Numbered for Refusal {
+    ghost number = { number };
+
+    fn number(&self) -> u8 {
+        match self {
+            Refusal::Size => 1,
+            Refusal::Set => 4,
+            Refusal::Count => 5,
+            Refusal::Form => 12,
+        }
+    }
 }
 
-fn kind_wrong(kind: u64) -> bool
-    ensures { result ≡ kind_wrong kind }
-{
-    (kind < 1) | (3 < kind)
+impl From<Fault> for Refusal {
+    ghost from_gives = { λ _ r. r ≡ Form };
+
+    fn from(_: Fault) -> Refusal {
+        Refusal::Form
+    }
 }
 
 fn count_wrong(size: u64, count: u64) -> bool
     requires { size ≤ 25 }
     ensures { result ≡ count_wrong size count }
 {
-    if (MOST as u64) < count {
-        return true;
-    }
-    2048 < count * size
+    (MOST as u64) < count || 2048 < count * size
 }
 
-// The head of a flow file.
-fn read_head(s: &[u8]) -> Head
+// The head of a flow file: the chart, and the place past it.
+fn read_head(s: &[u8]) -> Result<Read<Chart>, Refusal>
     ensures said { head_from s.now 0 ≡ after_head s.now result }
     ensures legal { LegalHead result }
 {
-    let Reading::Number {
-        value: kind,
-        next: second,
-    } = groups::read_number(s, 0)
-    else {
-        return Head::Halted(12);
-    };
-    if kind_wrong(kind) {
-        return Head::Halted(12);
+    let kind = read_number(s, 0)?;
+    if Chart::kind_wrong(kind.value) {
+        return Err(Refusal::Form);
     }
-    let Reading::Number {
-        value: size,
-        next: third,
-    } = groups::read_number(s, second)
-    else {
-        return Head::Halted(12);
+    let size = read_number(s, kind.next)?;
+    let Ok(chart) = Chart::new(kind.value, size.value as usize) else {
+        return Err(Refusal::Size);
     };
-    let Changed::Done(new) = Chart::new(kind, size as usize) else {
-        return Head::Halted(1);
-    };
-    let Reading::Number {
-        value: set,
-        next: fourth,
-    } = groups::read_number(s, third)
-    else {
-        return Head::Halted(12);
-    };
-    if set > RuleSet::ALL as u64 {
-        return Head::Halted(4);
+    let set = read_number(s, size.next)?;
+    if set.value > RuleSet::ALL as u64 {
+        return Err(Refusal::Set);
     }
-    let Reading::Number { value: count, next } = groups::read_number(s, fourth) else {
-        return Head::Halted(12);
-    };
-    if count_wrong(size, count) {
-        return Head::Halted(5);
+    let count = read_number(s, set.next)?;
+    if count_wrong(size.value, count.value) {
+        return Err(Refusal::Count);
     }
-    let mut chart = new;
-    let tests = RuleSet { mask: set as u16 };
-    chart.set = tests;
-    chart.count = count as usize;
-    Head::Names { chart, next }
+    Ok(Read {
+        value: Chart {
+            set: RuleSet {
+                mask: set.value as u16,
+            },
+            count: count.value as usize,
+            ..chart
+        },
+        next: count.next,
+    })
 }
 
-// Reads the chart's values from a place on into the front of a room that holds them, and then the end.
-fn read_values(s: &[u8], from: usize, chart: Chart, values: &mut [f64]) -> Flow
-    requires chart_in_bounds { size chart ≤ length values.old }
-    requires legal { Legal chart }
-    ensures said { values_from s.now chart (size chart) from ≡ said_by result values.new }
-    ensures legal { LegalFlow result }
+// Reads the chart's values from a place on into a room that they fill, and then the end.
+fn read_values(s: &[u8], from: usize, chart: Chart, values: &mut [f64]) -> Result<(), Refusal>
+    requires { length values.old ≡ size chart }
+    ensures { values_from s.now chart (size chart) from ≡ said_by chart values.new result }
 {
-    let n = chart.count * chart.size;
     let mut at = from;
-    let mut i: usize = 0;
-    while i < n {
-        let Reading::Number { value, next } = groups::read_number(s, at) else {
-            return Flow::Refused(12);
-        };
-        values[i] = floats::of_bits(value);
-        at = next;
-        i += 1;
+    for value in values.iter_mut() {
+        let read = read_number(s, at)?;
+        *value = floats::of_bits(read.value);
+        at = read.next;
     }
     if at < s.len() {
-        return Flow::Refused(12);
+        return Err(Refusal::Form);
     }
-    Flow::Read(chart)
+    Ok(())
 }
 
 // Reads a flow file. The values stand at the front of the room afterwards; where the file is refused, the room holds what
 // was read so far.
-pub fn read_flow(s: &[u8], values: &mut [f64]) -> Flow
+pub fn read_flow(s: &[u8], values: &mut [f64]) -> Result<Chart, Refusal>
     requires { 2048 ≤ length values.old }
-    ensures said { flow_of s.now ≡ said_by result values.new }
+    ensures said { flow_of s.now ≡ said_flow values.new result }
     ensures legal { LegalFlow result }
 {
     if 24576 < s.len() {
-        return Flow::Refused(12);
+        return Err(Refusal::Form);
     }
-    match read_head(s) {
-        Head::Halted(why) => Flow::Refused(why),
-        Head::Names { chart, next } => read_values(s, next, chart, values),
-    }
+    let head = read_head(s)?;
+    let chart = head.value;
+    let n = chart.count * chart.size;
+    read_values(s, head.next, chart, &mut values[..n])?;
+    Ok(chart)
 }

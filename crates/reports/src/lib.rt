@@ -13,58 +13,43 @@ ghost use Rattle.reports.specs.Steps.{size, Legal};
 ghost use Rattle.reports.specs.TextSteps.{Tells, text_by};
 
 use charts::{Chart, INDIVIDUALS};
-use evaluating::{Evaluated, Evaluation};
-use flow::Flow;
+use evaluating::Evaluation;
+use groups::TooShort;
+use numbers::Numbered;
 use rules::SAME_WIDTHS;
 
 /// No report is longer: a room of so many bytes holds any.
 pub const LONGEST: usize = 405_704;
 
-/// What writing a report comes to.
-#[derive(Clone, Copy)]
-pub enum Reported {
-    /// The report stands at the front of the room, so many bytes long (0).
-    Text(usize),
-    /// The room is shorter than the report (6).
-    TooShort,
-}
-
-impl Reported {
-    /// 01's number of the answer.
-    pub fn number(self) -> u8
-        ensures { result ≡ (reported self).0 }
-    {
-        match self {
-            Reported::Text(_) => 0,
-            Reported::TooShort => 6,
-        }
-    }
-}
-
 // Writes the line of a refusal.
-fn refuse(why: u64, out: &mut [u8]) -> Reported
+fn refuse(why: u8, out: &mut [u8]) -> Result<usize, TooShort>
     ensures answer { reported result ≡ room_for (r_line why) (length out.old) }
     ensures room { out.new ≡ at_front_if_room (r_line why) out.old }
 {
     let n = text::put_refusal(out, false, why);
     if out.len() < n {
-        return Reported::TooShort;
+        return Err(TooShort);
     }
-    Reported::Text(text::put_refusal(out, true, why))
+    Ok(text::put_refusal(out, true, why))
 }
 
 // The index of the dispersion series' first point.
+#[tactic(auto, unfolding(crate::specs::Report::first_index, charts::specs::Records::by_kind))]
 fn first_index(chart: Chart) -> u64
     ensures { (result ≡ first_index chart) × (result ≤ 1) }
 {
-    if chart.kind == INDIVIDUALS {
-        return 1;
-    }
-    0
+    u64::from(chart.kind == INDIVIDUALS)
 }
 
-// Writes the text of an evaluated chart, told the marks of both series.
-fn tell(chart: Chart, e: Evaluation, marks: &[u16], others: &[u16], out: &mut [u8]) -> Reported
+// Writes the text of an evaluated chart, told the marks of both series. That it is counted first and then written, as in `refuse`,
+// is not shared: a closure that lends the room would have to say all of `Put` again.
+fn tell(
+    chart: Chart,
+    e: Evaluation,
+    marks: &[u16],
+    others: &[u16],
+    out: &mut [u8],
+) -> Result<usize, TooShort>
     requires { Tells e (first_index chart) marks.now others.now }
     ensures answer { reported result
         ≡ room_for (text_by chart e (first_index chart) marks.now others.now) (length out.old) }
@@ -74,20 +59,20 @@ fn tell(chart: Chart, e: Evaluation, marks: &[u16], others: &[u16], out: &mut [u
     let first = first_index(chart);
     let n = text::put_chart(out, false, chart, e, first, marks, others);
     if out.len() < n {
-        return Reported::TooShort;
+        return Err(TooShort);
     }
-    Reported::Text(text::put_chart(out, true, chart, e, first, marks, others))
+    Ok(text::put_chart(out, true, chart, e, first, marks, others))
 }
 
 // Writes the report of a chart and its values.
-fn report_chart(chart: Chart, values: &[f64], out: &mut [u8]) -> Reported
+fn report_chart(chart: Chart, values: &[f64], out: &mut [u8]) -> Result<usize, TooShort>
     requires legal { Legal chart }
     requires whole { length values.now ≡ size chart }
     ensures answer { reported result ≡ room_for (chart_report (asked chart values.now)) (length out.old) }
     ensures room { out.new ≡ at_front_if_room (chart_report (asked chart values.now)) out.old }
 {
     if !floats::all_finite(values) {
-        return refuse(3, out);
+        return refuse(charts::Refusal::NotFinite.number(), out);
     }
     let mut main = [0.0f64; 2048];
     let mut dispersion = [0.0f64; 2048];
@@ -103,18 +88,18 @@ fn report_chart(chart: Chart, values: &[f64], out: &mut [u8]) -> Reported
         &mut marks,
         &mut others,
     ) {
-        Evaluated::Refused(why) => refuse(why.number() as u64, out),
-        Evaluated::Done(e) => {
+        Err(why) => refuse(why.number(), out),
+        Ok(e) => {
             let points = chart.count;
             let ranges = points - first_index(chart) as usize;
-            tell(chart, e, &marks[0..points], &others[0..ranges], out)
+            tell(chart, e, &marks[..points], &others[..ranges], out)
         }
     }
 }
 
 /// Writes the report of a flow file, whatever the bytes `input` are, at the front of the room `out`.
 ///
-/// Gives `Text` with the report's length; what lies past it is untouched. Bytes that are no flow file, or whose chart cannot
+/// Gives `Ok` with the report's length; what lies past it is untouched. Bytes that are no flow file, or whose chart cannot
 /// be evaluated, have a report too: the line `R` with the number of the refusal. In this order: more than 24,576 bytes (12);
 /// of each header number in turn its form (12) and its value (kind 12, size 1, set 4, count 5); a value's form (12); bytes
 /// left over (12); a value that is not finite (3); too few samples (8); a point or a limit that is not finite (7).
@@ -125,17 +110,17 @@ fn report_chart(chart: Chart, values: &[f64], out: &mut [u8]) -> Reported
 ///
 /// # Example
 ///
-/// The bytes `01 02` are refused for the size: `report(&[1, 2], out)` writes `R 1` and a newline, and gives `Text(4)`.
-pub fn report(input: &[u8], out: &mut [u8]) -> Reported
+/// The bytes `01 02` are refused for the size: `report(&[1, 2], out)` writes `R 1` and a newline, and gives `Ok(4)`.
+pub fn report(input: &[u8], out: &mut [u8]) -> Result<usize, TooShort>
     ensures answer { reported result ≡ room_for (text_of input.now) (length out.old) }
     ensures room { out.new ≡ at_front_if_room (text_of input.now) out.old }
 {
     let mut values = [0.0f64; 2048];
     match flow::read_flow(input, &mut values) {
-        Flow::Refused(why) => refuse(why as u64, out),
-        Flow::Read(chart) => {
+        Err(why) => refuse(why.number(), out),
+        Ok(chart) => {
             let n = chart.count * chart.size;
-            report_chart(chart, &values[0..n], out)
+            report_chart(chart, &values[..n], out)
         }
     }
 }

@@ -1,5 +1,7 @@
 // The lines of a report, byte by byte from a place of the room on. Each function either writes its bytes or only goes past
-// them, so that a room too short for a text is known before anything is written.
+// them, so that a room too short for a text is known before anything is written. They print by hand: there is no heap to format
+// into, and each promises its exact bytes. The room, whether to write and the place stay three parameters: what a struct leaves
+// behind a reference of its own a contract can name only by its place in nested pairs.
 ghost use Rattle.std.specs.Prelude.{◌≡◌, ◌∷◌, [], true, ◌≤◌, ◌<◌, length};
 ghost use Rattle.laws.specs.Bits.{has_bit};
 ghost use Rattle.rules.specs.Finite.{finite_limits};
@@ -17,9 +19,9 @@ fn glyph(d: u64) -> u8
     ensures { result ≡ glyph_of d }
 {
     if d < 10 {
-        return 48 + d as u8;
+        return b'0' + d as u8;
     }
-    87 + d as u8
+    b'a' - 10 + d as u8
 }
 
 // How many decimal digits a number has.
@@ -83,11 +85,9 @@ fn put_line(
     ensures { Put write (line letter (words_from decimals 0 xs.now)) at out.old result out.new }
 {
     let mut to = put_byte(out, write, at, letter);
-    let mut i: usize = 0;
-    while i < xs.len() {
+    for (i, x) in xs.iter().enumerate() {
         let word = put_byte(out, write, to, b' ');
-        to = put_number(out, write, word, decimals <= i, xs[i]);
-        i += 1;
+        to = put_number(out, write, word, decimals <= i, *x);
     }
     put_byte(out, write, to, b'\n')
 }
@@ -111,7 +111,7 @@ fn has_bit(m: u16, k: u64) -> bool
     requires { k < 16 }
     ensures { result ≡ has_bit m k }
 {
-    (m >> k) & 1 == 1
+    m >> k & 1 == 1
 }
 
 // The lines of the marks of a point, test by test.
@@ -119,14 +119,9 @@ fn put_point(out: &mut [u8], write: bool, at: usize, series: u64, index: u64, m:
     ensures { Put write (v_lines (point_marks series index m)) at out.old result out.new }
 {
     let mut to = at;
-    let mut t: u64 = 0;
-    while t < 9 {
+    for t in 0..9 {
         if has_bit(m, t) {
-            let numbers = [series, index, t];
-            to = put_line(out, write, to, b'V', 3, &numbers);
-            t += 1;
-        } else {
-            t += 1;
+            to = put_line(out, write, to, b'V', 3, &[series, index, t]);
         }
     }
     to
@@ -145,14 +140,9 @@ fn put_marks(
     ensures { Put write (v_lines (listed series first marks.now)) at out.old result out.new }
 {
     let mut to = at;
-    let mut i: usize = 0;
-    while i < marks.len() {
-        let m = marks[i];
-        if m == 0 {
-            i += 1;
-        } else {
-            to = put_point(out, write, to, series, first + i as u64, m);
-            i += 1;
+    for (i, m) in marks.iter().enumerate() {
+        if *m != 0 {
+            to = put_point(out, write, to, series, first + i as u64, *m);
         }
     }
     to
@@ -171,7 +161,7 @@ pub fn put_chart(
     requires { Tells e first marks.now others.now }
     ensures { Put write (text_by chart e first marks.now others.now) 0 out.old result out.new }
 {
-    let head = [chart.kind, chart.size as u64, chart.set.mask as u64];
+    let head = [chart.kind, chart.size as u64, u64::from(chart.set.mask)];
     let lines = [e.marks as u64];
     let one = put_line(out, write, 0, b'C', 3, &head);
     let two = put_limits(out, write, one, 0, e.main);
@@ -182,9 +172,8 @@ pub fn put_chart(
 }
 
 /// The line of a refusal, from the front of the room on.
-pub fn put_refusal(out: &mut [u8], write: bool, why: u64) -> usize
+pub fn put_refusal(out: &mut [u8], write: bool, why: u8) -> usize
     ensures { Put write (r_line why) 0 out.old result out.new }
 {
-    let number = [why];
-    put_line(out, write, 0, b'R', 1, &number)
+    put_line(out, write, 0, b'R', 1, &[u64::from(why)])
 }

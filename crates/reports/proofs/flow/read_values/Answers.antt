@@ -1,66 +1,45 @@
 -- `flow::read_values` meets its contract: its loop reads the values one by one. Assumes nothing.
-use mathlib.Core.Path.{sym, ◌∙◌}
+use mathlib.Core.Path.{◌≡◌, sym, ap, ◌∙◌}
 use native.Mathlib.Omega.{arith}
-use Rattle.charts.proofs.Held.{own}
-use Rattle.reports.specs.Steps.{size}
+use borrow.Author.Rules.{rules}
+use lib.Ieee.{Float}
+use lib.Seq.{take_all}
+use mathlib.Core.List.{List}
+use Rattle.std.specs.Prelude.{Err}
+use Rattle.reports.specs.declared.flow.Refusal.TheVariants.{Form}
+use Rattle.reports.specs.Flow.{flow}
+use Rattle.reports.specs.Steps.{size, said_by}
 use Rattle.reports.proofs.Values.{reads-starts, reads-fault, reads-goes-on, reads_more, reads-ends}
 use Rattle.reports.proofs.flow.read_values.Goals as goal
 
-pub overflow_mul-n : goal.overflow_mul-n
-overflow_mul-n c =
-    omega (arith, (own c.args.chart c.requires.legal.own).all)
-
-pub loop-i-init : goal.loop-i-init
-loop-i-init c =
+pub loop-value-init : goal.loop-value-init
+loop-value-init c =
     let args = c.args in
     reads-starts args.s.now args.chart (size args.chart) args.from args.values.now
 
-pub returns-in_default : goal.returns-in_default
-returns-in_default c =
-    let args = c.args in record {
-      said = reads-fault args.s.now args.chart (size args.chart) args.from args.values.now c.loop-i.values c.loop-i.at c.loop-i.i c.loop-i.invariant
-          c.loop-i-test.true _ (sym c.read_number.ensures ∙ c.in_default.is);
-      legal = tt;
-    }
+pub returns-in_err-read : goal.returns-in_err-read
+returns-in_err-read c =
+    let args = c.args in
+    let told : c.from_residual.result ≡ Err Form = search rules in
+    reads-fault args.s.now args.chart (size args.chart) args.from args.values.now c.loop-value.values c.loop-value.at c.loop-value.value-index c.loop-value.invariant
+    (omega (arith, c.loop-value-test.true, c.requires, c.loop-value.invariant.same)) _ (sym c.in_err-read.ensures) ∙ sym (ap (said_by args.chart _) told)
 
-pub offset_bounds-values-i : goal.offset_bounds-values-i
-offset_bounds-values-i c =
-    omega (arith, c.loop-i.invariant.same)
-
-pub bounds-values-i : goal.bounds-values-i
-bounds-values-i c =
-    let pre = c.requires in
-    omega (arith, c.loop-i.invariant.same, c.loop-i-test.true, pre.chart_in_bounds)
-
-pub overflow_add-i : goal.overflow_add-i
-overflow_add-i c =
-    omega arith
-
-pub loop-i-smaller : goal.loop-i-smaller
-loop-i-smaller c =
-    omega arith
-
-pub loop-i-preserved : goal.loop-i-preserved
-loop-i-preserved c =
-    let pre = c.requires in
+pub loop-value-preserved : goal.loop-value-preserved
+loop-value-preserved c =
     let args = c.args in
     rw c.of_bits.ensures
-    (reads-goes-on args.s.now args.chart (size args.chart) args.from args.values.now c.loop-i.values c.loop-i.at c.loop-i.i c.loop-i.invariant
-    c.loop-i-test.true _ _ (sym c.read_number.ensures ∙ c.in-Number.is) pre.chart_in_bounds)
+    (reads-goes-on args.s.now args.chart (size args.chart) args.from args.values.now c.loop-value.values c.loop-value.at c.loop-value.value-index c.loop-value.invariant
+    (omega (arith, c.loop-value-test.true, c.requires, c.loop-value.invariant.same)) _ _ (sym c.in_ok-read.ensures) (omega (arith, c.requires)))
 
 pub returns-then-at-s : goal.returns-then-at-s
 returns-then-at-s c =
-    let args = c.args in record {
-      said = reads_more args.s.now args.chart (size args.chart) args.from args.values.now c.loop-i.values c.loop-i.at c.loop-i.i c.loop-i.invariant
-          c.loop-i-test.false c.if-at-s.true;
-      legal = tt;
-    }
+    let args = c.args in
+    reads_more args.s.now args.chart (size args.chart) args.from args.values.now c.loop-value.values c.loop-value.at c.loop-value.value-index c.loop-value.invariant
+    (omega (arith, c.loop-value-test.false, c.requires, c.loop-value.invariant.same)) c.if-at-s.true
 
 pub returns : goal.returns
 returns c =
-    let pre = c.requires in
-    let args = c.args in record {
-      said = reads-ends args.s.now args.chart (size args.chart) args.from args.values.now c.loop-i.values c.loop-i.at c.loop-i.i c.loop-i.invariant
-          c.loop-i-test.false c.if-at-s.false;
-      legal = pre.legal;
-    }
+    let args = c.args in
+    reads-ends args.s.now args.chart (size args.chart) args.from args.values.now c.loop-value.values c.loop-value.at c.loop-value.value-index c.loop-value.invariant
+    (omega (arith, c.loop-value-test.false, c.requires, c.loop-value.invariant.same)) c.if-at-s.false
+    ∙ ap (λ (l : List Float). flow args.chart l) (take_all (size args.chart) c.loop-value.values (omega (arith, c.requires, c.loop-value.invariant.same)))

@@ -1,5 +1,7 @@
 -- `text::put_chart` meets its contract: its lines, one after the other. Assumes nothing.
+use mathlib.Core.Path.{ap}
 use mathlib.Core.List.{[], ◌∷◌}
+use Prim.Native.Nat.{ℕ}
 use Rattle.reports.specs.Text.{line}
 use Rattle.reports.specs.TextSteps.{Put, words_from}
 use Rattle.reports.proofs.Charts.{chart-lines}
@@ -9,11 +11,12 @@ use Rattle.reports.proofs.text.put_chart.Goals as goal
 pub returns : goal.returns
 returns c =
     let args = c.args in
+    let head = ap (λ (n : ℕ). line 67 (words_from 3 0 (args.chart.kind ∷ args.chart.size ∷ n ∷ []))) c.from.ensures in
     let number : Put args.write (line 69 (words_from 1 0 (args.e.marks ∷ []))) _ _ _ _ = c.put_line.ensures in
     put_as
     (chart-lines args.chart.kind args.chart.size args.chart.set.mask args.e.main args.e.dispersion args.first
     args.marks.now args.others.now args.e.marks c.requires.number)
-    (put_both c.put_line-one.ensures
+    (put_both (put_as head c.put_line-one.ensures)
     (put_both c.put_limits-two.ensures
     (put_both c.put_limits-three.ensures
     (put_both c.put_marks-four.ensures

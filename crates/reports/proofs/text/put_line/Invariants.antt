@@ -1,6 +1,4 @@
 -- `text::put_line` meets its contract: the words from i on are to come. Assumes nothing.
-use Prim.Native.Nat.{◌-◌}
-use lib.ListN.{length}
 use Rattle.reports.proofs.Putting.{Coming}
 use Rattle.reports.proofs.Words.{words_left}
 use Rattle.reports.proofs.text.put_line.Given as goal
@@ -8,7 +6,3 @@ use Rattle.reports.proofs.text.put_line.Given as goal
 abbrev pub invariant-loop-i : goal.invariant-loop-i
 invariant-loop-i l =
     Coming l.write (words_left l.decimals l.xs 0) l.initial.to l.initial.out (words_left l.decimals l.xs l.i) l.to l.out
-
-abbrev pub decreases-loop-i : goal.decreases-loop-i
-decreases-loop-i l =
-    length l.xs - l.i

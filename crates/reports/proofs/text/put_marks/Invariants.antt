@@ -1,6 +1,4 @@
 -- `text::put_marks` meets its contract: the lines of the points from i on are to come. Assumes nothing.
-use Prim.Native.Nat.{◌-◌}
-use lib.ListN.{length}
 use Rattle.reports.specs.Text.{v_lines, listed}
 use Rattle.reports.proofs.Marks.{listed_from}
 use Rattle.reports.proofs.Putting.{Coming}
@@ -9,7 +7,3 @@ use Rattle.reports.proofs.text.put_marks.Given as goal
 abbrev pub invariant-loop-i : goal.invariant-loop-i
 invariant-loop-i l =
     Coming l.write (v_lines (listed l.series l.first l.marks)) l.initial.to l.initial.out (v_lines (listed_from l.series l.first l.marks l.i)) l.to l.out
-
-abbrev pub decreases-loop-i : goal.decreases-loop-i
-decreases-loop-i l =
-    length l.marks - l.i

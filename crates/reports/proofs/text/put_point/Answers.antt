@@ -2,23 +2,24 @@
 use mathlib.Core.Path.{refl, sym, ◌∙◌}
 use Rattle.reports.proofs.Marks.{lines-on, lines-off, lines-done}
 use Rattle.reports.proofs.Putting.{coming-starts, coming-same, coming-on, coming-ends}
+use Rattle.reports.proofs.text.put_point.Goals.{then-has_bit, else-has_bit}
 use Rattle.reports.proofs.text.put_point.Goals as goal
 
 pub loop-t-init : goal.loop-t-init
 loop-t-init c =
     coming-starts refl
 
-pub loop-t-preserved-then-has_bit : goal.loop-t-preserved-then-has_bit
-loop-t-preserved-then-has_bit c =
-    let args = c.args in
-    coming-on c.loop-t.invariant
-    (lines-on args.series args.index args.m c.loop-t.t c.loop-t-test.true (sym c.has_bit.ensures ∙ c.if-has_bit.true)) c.put_line-to.ensures
-
 pub loop-t-preserved : goal.loop-t-preserved
 loop-t-preserved c =
     let args = c.args in
-    coming-same c.loop-t.invariant
-    (lines-off args.series args.index args.m c.loop-t.t c.loop-t-test.true (sym c.has_bit.ensures ∙ c.if-has_bit.false))
+    elim c.if-has_bit.branch [
+      | then-has_bit w ↦
+          rw (w.to-is, w.out-is)
+          (coming-on c.loop-t.invariant (lines-on args.series args.index args.m c.loop-t.t c.loop-t-test.true (sym c.has_bit.ensures ∙ w.if-has_bit.true)) w.put_line-to.ensures)
+      | else-has_bit w ↦
+          rw (w.to-is, w.out-is)
+          (coming-same c.loop-t.invariant (lines-off args.series args.index args.m c.loop-t.t c.loop-t-test.true (sym c.has_bit.ensures ∙ w.if-has_bit.false)))
+    ]
 
 pub returns : goal.returns
 returns c =

@@ -1,5 +1,4 @@
 -- `text::put_point` meets its contract: the lines of the tests from t on are to come. Assumes nothing.
-use Prim.Native.Nat.{◌-◌}
 use Rattle.reports.specs.Text.{v_lines}
 use Rattle.reports.proofs.Marks.{marks_from}
 use Rattle.reports.proofs.Putting.{Coming}
@@ -8,7 +7,3 @@ use Rattle.reports.proofs.text.put_point.Given as goal
 abbrev pub invariant-loop-t : goal.invariant-loop-t
 invariant-loop-t l =
     Coming l.write (v_lines (marks_from l.series l.index l.m 0)) l.initial.to l.initial.out (v_lines (marks_from l.series l.index l.m l.t)) l.to l.out
-
-abbrev pub decreases-loop-t : goal.decreases-loop-t
-decreases-loop-t l =
-    9 - l.t
