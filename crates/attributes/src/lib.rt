@@ -18,7 +18,7 @@ ghost use Rattle.attributes.specs.Evaluating.{evaluated, wrong, chart_centre, ch
 ghost use Rattle.attributes.specs.Steps.{Fine};
 
 use numbers::Numbered;
-pub use size::Size;
+use size::Size;
 use std::marker::PhantomData;
 
 /// The centre of a chart.
