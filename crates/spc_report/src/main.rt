@@ -7,10 +7,9 @@ ghost use Rattle.laws.specs.Front.{at_front};
 ghost use Rattle.reports.specs.Report.{text_of};
 
 use reports::LONGEST;
-use std::fmt;
-use std::io;
 use std::io::Read;
 use std::process::ExitCode;
+use std::{fmt, io};
 
 // What could not be done.
 #[derive(Clone, Copy)]
