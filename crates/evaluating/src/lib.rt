@@ -1,5 +1,5 @@
-// Evaluating a chart, and the sigma figures. The four lent slices are parameters of their own: what a struct's references leave behind
-// them a contract could only name by places in nested pairs.
+// Evaluating a chart, and the sigma figures. The four lent slices are parameters of their own: what a struct's references leave
+// behind them a contract could only name by places in nested pairs.
 #![tactic(auto)]
 
 mod checked;
