@@ -11,7 +11,8 @@ use Rattle.attributes.specs.declared.Centre.{Centre}
 use Rattle.attributes.specs.declared.Centre.TheVariants.{Computed, Given}
 use Rattle.attributes.specs.declared.PChart.{PChart}
 use Rattle.attributes.specs.declared.UChart.{UChart}
-use Rattle.attributes.specs.declared.checks.Tested.{Tested}
+use Rattle.std.specs.Prelude.{Result}
+use Rattle.attributes.specs.declared.Refusal.{Refusal}
 use Rattle.attributes.specs.Records.{record_wrong, record_wrong_p, record_wrong_u, too_large, sample_p, sample_u, full}
 use Rattle.attributes.specs.Evaluating.{stored_right_p, stored_right_u, wrong_p, wrong_u, total_of, centre_of}
 use Rattle.attributes.specs.Steps.{tested, adding, ahead, Small, SmallTo}
@@ -53,7 +54,7 @@ own n rest = by (eqb n 0) refl
     by true q h = h
     by false q h = absurd (eqb-false n 0 q h)
 
-pub fits : (wrong : Bool) (sample : Tested) (count counts sizes : ℕ) → first_of (adding wrong sample count counts sizes) 0 ≡ 0 → Fits count counts sizes
+pub fits : (wrong : Bool) (sample : Result (Unit {0}) Refusal) (count counts sizes : ℕ) → first_of (adding wrong sample count counts sizes) 0 ≡ 0 → Fits count counts sizes
 fits wrong sample count counts sizes e =
     let fourteen = accepted wrong 14 _ (omega arith) e in
     let five = accepted (leb 4096 count) 5 _ (omega arith) (own (tested sample) (full count counts sizes) fourteen.1) in

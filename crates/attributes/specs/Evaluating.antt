@@ -1,10 +1,11 @@
 -- Evaluating the P and the U chart (02, R-2). Definitions only.
-use Rattle.std.specs.Prelude.{ℕ, ◌+◌, Bool, cond, not, ◌||◌, List, [], ◌∷◌, length, take, ◌==◌, slice_index, slice_index_or, Float}
+use Rattle.std.specs.Prelude.{ℕ, ◌+◌, Bool, cond, not, ◌||◌, List, [], ◌∷◌, length, take, ◌==◌, slice_index, slice_index_or, Float, Result}
 use Rattle.std.specs.Float.{nan, binary64}
 use Rattle.std.specs.Float.Ieee.{sub, mul, div}
 use Rattle.laws.specs.Bools.{every}
 use Rattle.laws.specs.Lists.{tabulate}
 use Rattle.laws.specs.Refusals.{first_of}
+use Rattle.numbers.specs.Numbers.{answered}
 use Rattle.floats.specs.Values.{plus_zero, whole, decimal}
 use Rattle.root.specs.Root.{root_of}
 use Rattle.arith.specs.Arith.{sum_of, or_nan}
@@ -13,15 +14,13 @@ use Rattle.attributes.specs.declared.Centre.{Centre}
 use Rattle.attributes.specs.declared.Centre.TheVariants.{Computed, Given}
 use Rattle.attributes.specs.declared.PChart.{PChart}
 use Rattle.attributes.specs.declared.UChart.{UChart}
-use Rattle.attributes.specs.declared.Evaluated.{Evaluated}
-use Rattle.attributes.specs.declared.Evaluated.TheVariants.{Done, Refused}
+use Rattle.attributes.specs.declared.Refusal.{Refusal}
 use Rattle.attributes.specs.Records.{number, record_wrong_p, record_wrong_u, sample_p, sample_u}
 
 -- ---- the number and the centre that each answer stands for
 
-abbrev pub evaluated : Evaluated → ℕ × Float
-evaluated (Done cl) = (0, cl)
-evaluated (Refused why) = (number why, plus_zero)
+abbrev pub evaluated : Result Float Refusal → ℕ × Float
+evaluated = answered number (λ cl. cl) plus_zero
 
 -- ---- 14: "and in evaluating a stored sample that 16 to 19 refuse"
 

@@ -1,7 +1,8 @@
 -- The records of the P and the U chart, and the calls that make one and add a sample (02, R-2). Definitions only.
-use Rattle.std.specs.Prelude.{ℕ, ◌+◌, Bool, false, cond, not, ◌&&◌, ◌||◌, List, [], ◌∷◌, ◌++◌, ◌==◌, nat_le, nat_lt, slice_set, Float}
+use Rattle.std.specs.Prelude.{ℕ, ◌+◌, Bool, false, cond, not, ◌&&◌, ◌||◌, List, [], ◌∷◌, ◌++◌, ◌==◌, nat_le, nat_lt, slice_set, Float, Result}
 use Rattle.std.specs.Float.Ieee.{lt}
 use Rattle.laws.specs.Refusals.{first_of, each}
+use Rattle.numbers.specs.Numbers.{answered}
 use Rattle.floats.specs.Finite.{finite}
 use Rattle.floats.specs.Values.{plus_zero, decimal}
 use Rattle.attributes.specs.declared.Refusal.{Refusal}
@@ -9,11 +10,7 @@ use Rattle.attributes.specs.declared.Refusal.TheVariants as refusing
 use Rattle.attributes.specs.declared.Centre.{Centre}
 use Rattle.attributes.specs.declared.Centre.TheVariants.{Computed, Given}
 use Rattle.attributes.specs.declared.PChart.{PChart}
-use Rattle.attributes.specs.declared.PChanged.{PChanged}
-use Rattle.attributes.specs.declared.PChanged.TheVariants as p_changing
 use Rattle.attributes.specs.declared.UChart.{UChart}
-use Rattle.attributes.specs.declared.UChanged.{UChanged}
-use Rattle.attributes.specs.declared.UChanged.TheVariants as u_changing
 
 -- ---- the number of each refusal, and the number and the record that each answer stands for
 
@@ -30,13 +27,11 @@ number refusing.Units = 19
 number refusing.Centre = 20
 
 -- "A refusal gives back the record unchanged" (01, Order)
-abbrev pub changed_p : PChart → PChanged → ℕ × PChart
-changed_p before (p_changing.Done c) = (0, c)
-changed_p before (p_changing.Refused why) = (number why, before)
+abbrev pub changed_p : PChart → Result PChart Refusal → ℕ × PChart
+changed_p before = answered number (λ c. c) before
 
-abbrev pub changed_u : UChart → UChanged → ℕ × UChart
-changed_u before (u_changing.Done c) = (0, c)
-changed_u before (u_changing.Refused why) = (number why, before)
+abbrev pub changed_u : UChart → Result UChart Refusal → ℕ × UChart
+changed_u before = answered number (λ c. c) before
 
 -- ---- "making: 20 centre not allowed"
 

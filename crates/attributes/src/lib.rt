@@ -15,10 +15,10 @@ ghost use Rattle.points.specs.Plotting.{any_shorter};
 ghost use Rattle.attributes.specs.Records.{number, changed_p, changed_u, new_p, new_u, with_centre_p, with_centre_u, add_p, add_u, kept_after};
 ghost use Rattle.attributes.specs.Evaluating.{evaluated, plot_p, plot_u, evaluate_p, evaluate_u};
 
-use checks::Tested;
+use numbers::Numbered;
 
 /// The centre of a chart.
-#[derive(Clone, Copy)]
+#[derive(Clone, Copy, Debug, PartialEq)]
 pub enum Centre {
     /// Computed from the samples.
     Computed,
@@ -32,7 +32,7 @@ pub enum Centre {
 /// The fields may be any. A record that is no chart is refused by every call (14): its given centre is not finite and
 /// strictly between 0 and 1, its count is over 4,096, or over the length of one of the slices; by [`PChart::evaluate`] also
 /// where a stored sample is one that [`PChart::add`] refuses.
-#[derive(Clone, Copy)]
+#[derive(Clone, Copy, Debug, PartialEq)]
 pub struct PChart {
     /// The centre: computed, or a given one.
     pub centre: Centre,
@@ -46,7 +46,7 @@ pub struct PChart {
 /// The fields may be any. A record that is no chart is refused by every call (14): its given centre is not finite and above
 /// 0, its count is over 4,096, or over the length of one of the slices; by [`UChart::evaluate`] also where a stored sample
 /// is one that [`UChart::add`] refuses.
-#[derive(Clone, Copy)]
+#[derive(Clone, Copy, Debug, PartialEq)]
 pub struct UChart {
     /// The centre: computed, or a given one.
     pub centre: Centre,
@@ -55,7 +55,7 @@ pub struct UChart {
 }
 
 /// Why a call is refused. The number is that of documents 01 and 02.
-#[derive(Clone, Copy)]
+#[derive(Clone, Copy, Debug, PartialEq, Eq)]
 pub enum Refusal {
     /// The chart holds 4,096 samples (5).
     Full,
@@ -79,40 +79,13 @@ pub enum Refusal {
     Centre,
 }
 
-/// What making or changing a P chart answers.
-#[derive(Clone, Copy)]
-pub enum PChanged {
-    /// The chart (0).
-    Done(PChart),
-    /// The chart is as it was; of [`PChart::with_centre`], there is none.
-    Refused(Refusal),
-}
+impl Numbered for Refusal {
+    ghost number = { number };
 
-/// What making or changing a U chart answers.
-#[derive(Clone, Copy)]
-pub enum UChanged {
-    /// The chart (0).
-    Done(UChart),
-    /// The chart is as it was; of [`UChart::with_centre`], there is none.
-    Refused(Refusal),
-}
-
-/// What evaluating answers.
-#[derive(Clone, Copy)]
-pub enum Evaluated {
-    /// The centre (0).
-    Done(f64),
-    /// There is none.
-    Refused(Refusal),
-}
-
-impl Refusal {
     /// The refusal's number in documents 01 and 02.
     ///
     /// `Refusal::Record.number()` is 14.
-    pub fn number(self) -> u8
-        ensures { result ≡ number self }
-    {
+    fn number(&self) -> u8 {
         match self {
             Refusal::Full => 5,
             Refusal::TooShort => 6,
@@ -124,48 +97,6 @@ impl Refusal {
             Refusal::Damaged => 18,
             Refusal::Units => 19,
             Refusal::Centre => 20,
-        }
-    }
-}
-
-impl PChanged {
-    /// The answer's number in documents 01 and 02.
-    ///
-    /// `PChart::with_centre(1.0).number()` is 20.
-    pub fn number(self) -> u8
-        ensures { result ≡ (changed_p new_p self).0 }
-    {
-        match self {
-            PChanged::Done(_) => 0,
-            PChanged::Refused(why) => why.number(),
-        }
-    }
-}
-
-impl UChanged {
-    /// The answer's number in documents 01 and 02.
-    ///
-    /// `UChart::with_centre(1.0).number()` is 0.
-    pub fn number(self) -> u8
-        ensures { result ≡ (changed_u new_u self).0 }
-    {
-        match self {
-            UChanged::Done(_) => 0,
-            UChanged::Refused(why) => why.number(),
-        }
-    }
-}
-
-impl Evaluated {
-    /// The answer's number in documents 01 and 02.
-    ///
-    /// `Evaluated::Done(0.5).number()` is 0.
-    pub fn number(self) -> u8
-        ensures { result ≡ (evaluated self).0 }
-    {
-        match self {
-            Evaluated::Done(_) => 0,
-            Evaluated::Refused(why) => why.number(),
         }
     }
 }
@@ -187,16 +118,16 @@ impl PChart {
 
     /// A chart with no samples and a given centre.
     ///
-    /// Gives `Done` with the chart. Refuses a centre that is not finite and strictly between 0 and 1 (20, `Centre`).
+    /// Gives `Ok` with the chart. Refuses a centre that is not finite and strictly between 0 and 1 (20, `Centre`).
     ///
-    /// `PChart::with_centre(0.5)` is `PChanged::Done` with `PChart { centre: Centre::Given(0.5), count: 0 }`.
-    pub fn with_centre(centre: f64) -> PChanged
+    /// `PChart::with_centre(0.5)` is `Ok` with `PChart { centre: Centre::Given(0.5), count: 0 }`.
+    pub fn with_centre(centre: f64) -> Result<PChart, Refusal>
         ensures { changed_p new_p result ≡ with_centre_p centre }
     {
         if !proportions::allowed(centre) {
-            return PChanged::Refused(Refusal::Centre);
+            return Err(Refusal::Centre);
         }
-        PChanged::Done(PChart {
+        Ok(PChart {
             centre: Centre::Given(centre),
             count: 0,
         })
@@ -217,7 +148,7 @@ impl PChart {
         sizes: &mut [u64],
         damaged: u64,
         inspected: u64,
-    ) -> PChanged
+    ) -> Result<PChart, Refusal>
         ensures answer { changed_p self result
             ≡ add_p self (length counts.old) (length sizes.old) damaged inspected }
         ensures counts { counts.new ≡ kept_after (changed_p self result).0 self.count damaged counts.old }
@@ -225,17 +156,14 @@ impl PChart {
     {
         let wrong = proportions::record_wrong(self, counts.len(), sizes.len());
         let sample = proportions::sample(damaged, inspected);
-        match checks::adding(wrong, sample, self.count, counts.len(), sizes.len()) {
-            Tested::Refused(why) => PChanged::Refused(why),
-            Tested::Passed => {
-                let at = self.count;
-                counts[at] = damaged;
-                sizes[at] = inspected;
-                let mut chart = self;
-                chart.count = at + 1;
-                PChanged::Done(chart)
-            }
-        }
+        checks::adding(wrong, sample, self.count, counts.len(), sizes.len())?;
+        let at = self.count;
+        counts[at] = damaged;
+        sizes[at] = inspected;
+        Ok(PChart {
+            count: at + 1,
+            ..self
+        })
     }
 
     /// Evaluates the chart: writes each point's value, limits, verdict and standardized value to the front of the lent
@@ -257,7 +185,7 @@ impl PChart {
         out: &mut [bool],
         z: &mut [f64],
         has_z: &mut [bool],
-    ) -> Evaluated
+    ) -> Result<f64, Refusal>
         ensures answer { evaluated result
             ≡ evaluate_p self counts.now sizes.now
             (any_shorter self.count (length values.old ∷ length ucl.old ∷ length lcl.old
@@ -277,34 +205,20 @@ impl PChart {
     {
         let n = self.count;
         let wrong = proportions::wrong(self, counts, sizes);
-        let short = points::too_short(
-            n,
+        let lengths = [
             values.len(),
             ucl.len(),
             lcl.len(),
             out.len(),
             z.len(),
             has_z.len(),
-        );
-        match checks::check(wrong, n, short) {
-            Tested::Refused(why) => Evaluated::Refused(why),
-            Tested::Passed => {
-                let cl = proportions::centre(self, counts, sizes);
-                proportions::fill_sizes(n, sizes, ucl);
-                plots::evaluate(
-                    cl,
-                    proportions::variance(cl),
-                    n,
-                    counts,
-                    values,
-                    ucl,
-                    lcl,
-                    out,
-                    z,
-                    has_z,
-                )
-            }
-        }
+        ];
+        let short = points::too_short(n, &lengths);
+        checks::check(wrong, n, short)?;
+        let cl = proportions::centre(self, counts, sizes);
+        proportions::fill_sizes(n, sizes, ucl);
+        let variance = proportions::variance(cl);
+        plots::evaluate(cl, variance, n, counts, values, ucl, lcl, out, z, has_z)
     }
 }
 
@@ -325,16 +239,16 @@ impl UChart {
 
     /// A chart with no samples and a given centre.
     ///
-    /// Gives `Done` with the chart. Refuses a centre that is not finite and above 0 (20, `Centre`).
+    /// Gives `Ok` with the chart. Refuses a centre that is not finite and above 0 (20, `Centre`).
     ///
-    /// `UChart::with_centre(16.0)` is `UChanged::Done` with `UChart { centre: Centre::Given(16.0), count: 0 }`.
-    pub fn with_centre(centre: f64) -> UChanged
+    /// `UChart::with_centre(16.0)` is `Ok` with `UChart { centre: Centre::Given(16.0), count: 0 }`.
+    pub fn with_centre(centre: f64) -> Result<UChart, Refusal>
         ensures { changed_u new_u result ≡ with_centre_u centre }
     {
         if !rates::allowed(centre) {
-            return UChanged::Refused(Refusal::Centre);
+            return Err(Refusal::Centre);
         }
-        UChanged::Done(UChart {
+        Ok(UChart {
             centre: Centre::Given(centre),
             count: 0,
         })
@@ -349,7 +263,13 @@ impl UChart {
     ///
     /// With a chart that holds nothing, `add(&mut counts, &mut sizes, 3, 2.5)` writes 3 to `counts[0]` and 2.5 to `sizes[0]`,
     /// and gives the chart with count 1.
-    pub fn add(self, counts: &mut [u64], sizes: &mut [f64], damaged: u64, units: f64) -> UChanged
+    pub fn add(
+        self,
+        counts: &mut [u64],
+        sizes: &mut [f64],
+        damaged: u64,
+        units: f64,
+    ) -> Result<UChart, Refusal>
         ensures answer { changed_u self result
             ≡ add_u self (length counts.old) (length sizes.old) damaged units }
         ensures counts { counts.new ≡ kept_after (changed_u self result).0 self.count damaged counts.old }
@@ -357,17 +277,14 @@ impl UChart {
     {
         let wrong = rates::record_wrong(self, counts.len(), sizes.len());
         let sample = rates::sample(damaged, units);
-        match checks::adding(wrong, sample, self.count, counts.len(), sizes.len()) {
-            Tested::Refused(why) => UChanged::Refused(why),
-            Tested::Passed => {
-                let at = self.count;
-                counts[at] = damaged;
-                sizes[at] = units;
-                let mut chart = self;
-                chart.count = at + 1;
-                UChanged::Done(chart)
-            }
-        }
+        checks::adding(wrong, sample, self.count, counts.len(), sizes.len())?;
+        let at = self.count;
+        counts[at] = damaged;
+        sizes[at] = units;
+        Ok(UChart {
+            count: at + 1,
+            ..self
+        })
     }
 
     /// Evaluates the chart, as [`PChart::evaluate`] does, and refuses as it does.
@@ -383,7 +300,7 @@ impl UChart {
         out: &mut [bool],
         z: &mut [f64],
         has_z: &mut [bool],
-    ) -> Evaluated
+    ) -> Result<f64, Refusal>
         ensures answer { evaluated result
             ≡ evaluate_u self counts.now sizes.now
             (any_shorter self.count (length values.old ∷ length ucl.old ∷ length lcl.old
@@ -403,22 +320,18 @@ impl UChart {
     {
         let n = self.count;
         let wrong = rates::wrong(self, counts, sizes);
-        let short = points::too_short(
-            n,
+        let lengths = [
             values.len(),
             ucl.len(),
             lcl.len(),
             out.len(),
             z.len(),
             has_z.len(),
-        );
-        match checks::check(wrong, n, short) {
-            Tested::Refused(why) => Evaluated::Refused(why),
-            Tested::Passed => {
-                let cl = rates::centre(self, counts, sizes);
-                rates::fill_sizes(n, sizes, ucl);
-                plots::evaluate(cl, cl, n, counts, values, ucl, lcl, out, z, has_z)
-            }
-        }
+        ];
+        let short = points::too_short(n, &lengths);
+        checks::check(wrong, n, short)?;
+        let cl = rates::centre(self, counts, sizes);
+        rates::fill_sizes(n, sizes, ucl);
+        plots::evaluate(cl, cl, n, counts, values, ucl, lcl, out, z, has_z)
     }
 }

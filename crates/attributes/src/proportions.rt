@@ -6,7 +6,7 @@ ghost use Rattle.attributes.specs.Records.{proportion_allowed, centre_wrong, rec
 ghost use Rattle.attributes.specs.Evaluating.{right, stored_right_p, wrong_p, centre_p, variance_p, sizes_p};
 ghost use Rattle.attributes.specs.Steps.{tested, SmallTo};
 
-use super::checks::{MOST, Tested};
+use super::checks::MOST;
 use super::{Centre, PChart, Refusal, checks, totals};
 
 pub fn allowed(p: f64) -> bool
@@ -27,24 +27,23 @@ fn centre_wrong(centre: Centre) -> bool
 pub fn record_wrong(c: PChart, counts: usize, sizes: usize) -> bool
     ensures { result ≡ record_wrong_p c counts sizes }
 {
-    let centre = c.centre;
-    checks::record_wrong(centre_wrong(centre), c.count, counts, sizes)
+    checks::record_wrong(centre_wrong(c.centre), c.count, counts, sizes)
 }
 
 // 16, 17 and 18.
-pub fn sample(damaged: u64, inspected: u64) -> Tested
+pub fn sample(damaged: u64, inspected: u64) -> Result<(), Refusal>
     ensures { tested result ≡ first_of (sample_p damaged inspected) 0 }
 {
     if (MOST < damaged) | (MOST < inspected) {
-        return Tested::Refused(Refusal::Count);
+        return Err(Refusal::Count);
     }
     if inspected == 0 {
-        return Tested::Refused(Refusal::NoSize);
+        return Err(Refusal::NoSize);
     }
     if inspected < damaged {
-        return Tested::Refused(Refusal::Damaged);
+        return Err(Refusal::Damaged);
     }
-    Tested::Passed
+    Ok(())
 }
 
 // Has a bit above the lowest 32 exactly where one of the three applies: a count that is too large has one, and so has a
@@ -52,8 +51,8 @@ pub fn sample(damaged: u64, inspected: u64) -> Tested
 fn excess(damaged: u64, inspected: u64) -> u64
     ensures { nat_lt result (2 ^ 32) ≡ right (sample_p damaged inspected) }
 {
-    let rest = std::num::wrapping_sub_u64(inspected, damaged);
-    let less = std::num::wrapping_sub_u64(inspected, 1);
+    let rest = inspected.wrapping_sub(damaged);
+    let less = inspected.wrapping_sub(1);
     damaged | inspected | rest | less
 }
 
@@ -62,10 +61,8 @@ fn stored_right(count: usize, counts: &[u64], sizes: &[u64]) -> bool
     ensures { result ≡ stored_right_p count counts.now sizes.now }
 {
     let mut bits: u64 = 0;
-    let mut i = 0;
-    while i < count {
-        bits = bits | excess(counts[i], sizes[i]);
-        i += 1;
+    for i in 0..count {
+        bits |= excess(counts[i], sizes[i]);
     }
     bits <= MOST
 }
@@ -84,13 +81,12 @@ pub fn centre(c: PChart, counts: &[u64], sizes: &[u64]) -> f64
     requires { wrong_p c counts.now sizes.now ≡ false }
     ensures { result ≡ centre_p c counts.now sizes.now }
 {
-    let centre = c.centre;
-    match centre {
+    match c.centre {
         Centre::Given(p) => p,
         Centre::Computed => {
             let n = c.count;
-            let damaged = totals::total(&counts[0..n]);
-            let inspected = totals::total(&sizes[0..n]);
+            let damaged = totals::total(&counts[..n]);
+            let inspected = totals::total(&sizes[..n]);
             std::num::nearest_u64_to_f64(damaged) / std::num::nearest_u64_to_f64(inspected)
         }
     }
@@ -107,9 +103,7 @@ pub fn fill_sizes(n: usize, sizes: &[u64], out: &mut [f64])
     requires { (n ≤ length sizes.now) × (n ≤ length out.old) × SmallTo n sizes.now }
     ensures { out.new ≡ at_front (sizes_p n sizes.now) out.old }
 {
-    let mut i = 0;
-    while i < n {
-        out[i] = (sizes[i] as u32) as f64;
-        i += 1;
+    for i in 0..n {
+        out[i] = f64::from(sizes[i] as u32);
     }
 }

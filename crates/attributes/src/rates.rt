@@ -6,7 +6,7 @@ ghost use Rattle.attributes.specs.Records.{rate_allowed, centre_wrong, record_wr
 ghost use Rattle.attributes.specs.Evaluating.{right, stored_right_u, wrong_u, centre_u};
 ghost use Rattle.attributes.specs.Steps.{tested};
 
-use super::checks::{MOST, Tested};
+use super::checks::MOST;
 use super::{Centre, Refusal, UChart, checks, totals};
 
 // Two comparisons, so that a loop can take several units at a time.
@@ -28,21 +28,20 @@ fn centre_wrong(centre: Centre) -> bool
 pub fn record_wrong(c: UChart, counts: usize, sizes: usize) -> bool
     ensures { result ≡ record_wrong_u c counts sizes }
 {
-    let centre = c.centre;
-    checks::record_wrong(centre_wrong(centre), c.count, counts, sizes)
+    checks::record_wrong(centre_wrong(c.centre), c.count, counts, sizes)
 }
 
 // 16 and 19.
-pub fn sample(damaged: u64, units: f64) -> Tested
+pub fn sample(damaged: u64, units: f64) -> Result<(), Refusal>
     ensures { tested result ≡ first_of (sample_u damaged units) 0 }
 {
     if MOST < damaged {
-        return Tested::Refused(Refusal::Count);
+        return Err(Refusal::Count);
     }
     if !allowed(units) {
-        return Tested::Refused(Refusal::Units);
+        return Err(Refusal::Units);
     }
-    Tested::Passed
+    Ok(())
 }
 
 fn sample_right(damaged: u64, units: f64) -> bool
@@ -57,10 +56,8 @@ fn stored_right(count: usize, counts: &[u64], sizes: &[f64]) -> bool
     ensures { result ≡ stored_right_u count counts.now sizes.now }
 {
     let mut all = true;
-    let mut i = 0;
-    while i < count {
+    for i in 0..count {
         all = all & sample_right(counts[i], sizes[i]);
-        i += 1;
     }
     all
 }
@@ -79,13 +76,12 @@ pub fn centre(c: UChart, counts: &[u64], sizes: &[f64]) -> f64
     requires { wrong_u c counts.now sizes.now ≡ false }
     ensures { result ≡ centre_u c counts.now sizes.now }
 {
-    let centre = c.centre;
-    match centre {
+    match c.centre {
         Centre::Given(u) => u,
         Centre::Computed => {
             let n = c.count;
-            let damaged = totals::total(&counts[0..n]);
-            let units = arith::sum_of(&sizes[0..n]);
+            let damaged = totals::total(&counts[..n]);
+            let units = arith::sum_of(&sizes[..n]);
             std::num::nearest_u64_to_f64(damaged) / units
         }
     }
@@ -96,9 +92,5 @@ pub fn fill_sizes(n: usize, sizes: &[f64], out: &mut [f64])
     requires { (n ≤ length sizes.now) × (n ≤ length out.old) }
     ensures { out.new ≡ at_front (take n sizes.now) out.old }
 {
-    let mut i = 0;
-    while i < n {
-        out[i] = sizes[i];
-        i += 1;
-    }
+    out[..n].copy_from_slice(&sizes[..n]);
 }

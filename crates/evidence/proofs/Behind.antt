@@ -13,11 +13,11 @@ use lib.Dec.{leb, eqb}
 use lib.Ieee.{Float, nan}
 use lib.ListN.{length, take, drop, get_or, replicate, length-drop, get_or-append}
 use lib.Seq.{get_or-take, get_or-drop, take-suc, take_all, length-take-le}
+use Rattle.std.specs.Prelude.{Some, None}
 use Rattle.laws.specs.Bools.{every}
 use Rattle.laws.specs.Front.{at_front}
 use Rattle.laws.proofs.OneBit.{test-pow}
 use Rattle.sets.specs.declared.Test.{Test}
-use Rattle.sets.specs.declared.Found.TheVariants as finding
 use Rattle.sets.specs.Sets.{bit_of, tests, test_of, test_at, has, set_of}
 use Rattle.sets.proofs.Sets.{agree, bit_of-lt, was-found, was-nothing, has-set_of, and-set_of}
 use Rattle.stops.specs.Stops.{since, stops_wrong, main_points}
@@ -32,7 +32,7 @@ use Rattle.floats.specs.Finite.{finite, all_finite}
 use Rattle.rules.specs.Finite.{finite_limits}
 use Rattle.rules.specs.Marking.{newest_first, stands, marks_at, cuts_of, lines_for, marks_of, answer_of, marks_after}
 use Rattle.evidence.specs.Evidence.{shown_at}
-use Rattle.evidence.specs.Steps.{shows_alone, span_at}
+use Rattle.evidence.specs.Steps.{shows_alone}
 use Rattle.rules.proofs.Columns.{window-most}
 use Rattle.rules.proofs.Stopped.{length-since, take-newest}
 use Rattle.rules.proofs.Meaning.{length-marks, marks-at}
@@ -186,7 +186,7 @@ module _ (series : List Float) (terms : Terms) (at bit : ℕ) where
   unfolding shown_at
   past-the-series h = simp (le-ltb at (length series) h)
 
-  pub no-such-test : test_at bit ≡ finding.Nothing → shown_at series terms at bit ≡ false
+  pub no-such-test : test_at bit ≡ None → shown_at series terms at bit ≡ false
   unfolding shown_at tests
   no-such-test e = simp (le-ltb bit 9 (was-nothing bit e), and-false)
 
@@ -211,12 +211,8 @@ module _ (series : List Float) (terms : Terms) (at bit : ℕ) where
       (ap₂ (λ (a b : Bool). not (width_wrong terms.width) && (finite_limits terms.limits && (a && b))) (part-finite (cuts_of terms) series at (window (test_of bit)) w h)
       (stands-behind terms.width terms.limits (test_of bit) (cuts_of terms) series at w))
 
-  pub no_span : shown_at series terms at bit ≡ false → span_at series terms at bit ≡ record { start = 0; end = 0 }
-  unfolding span_at
-  no_span e = simp e
-
   -- the test that the code finds, and the n values of its window
-  module _ (t : Test) (is : test_at bit ≡ finding.Test t) (n : ℕ) (long : n ≡ window t) where
+  module _ (t : Test) (is : test_at bit ≡ Some t) (n : ℕ) (long : n ≡ window t) where
     same : test_of bit ≡ t
     same = (was-found bit t is).1
 
@@ -243,10 +239,3 @@ module _ (series : List Float) (terms : Terms) (at bit : ℕ) where
         && (all_finite (part_to m at series) && shows (test_of bit) (lines_for terms) (newest_first unbroken (part_to m at series) k))))
         (length_part (cuts_of terms) series at m next h)
         ∙ sym (shown-by-window h g (was-found bit t is).0 next)
-
-    pub a-span : shown_at series terms at bit ≡ true → span_at series terms at bit ≡ record { start = at + 1 - n; end = at + 1 }
-    unfolding span_at
-    a-span s =
-        let start : suc at - window (test_of bit) ≡ at + 1 - n = omega (arith, longs) in
-        let end : suc at ≡ at + 1 = omega arith in
-        simp s (ap₂ (λ (x y : ℕ). record { start = x; end = y }) start end)

@@ -1,95 +1,67 @@
--- The evidence as a part of its series: from where the window starts to where it ends, or nothing. Assumes nothing.
-use mathlib.Core.Path.{◌≡◌, refl, sym, ap, ◌∙◌}
-use mathlib.Core.Bool.{Bool, true, false, not, cond}
+-- The evidence as a part of its series: the window that ends at the position, or nothing. Assumes nothing.
+use mathlib.Core.Path.{◌≡◌, sym, ap, ap₂, ◌∙◌}
+use mathlib.Core.Bool.{Bool, true, false, cond}
 use mathlib.Core.List.{List}
-use Prim.Native.Nat.{ℕ, suc, ◌-◌, ◌≤◌}
+use Prim.Native.Nat.{ℕ, suc, ◌+◌, ◌-◌, ◌≤◌}
 use native.Mathlib.Omega.{arith}
-use borrow.Author.Tests.{leb-true, lt-leb}
-use lib.Dec.{leb, ltb}
+use borrow.Author.Tests.{lt-leb}
 use lib.Ieee.{Float}
-use lib.ListN.{length, take}
-use Rattle.laws.proofs.Bools.{both}
-use Rattle.sets.specs.Sets.{tests, test_of}
-use Rattle.stops.specs.Stops.{stops_wrong, main_points}
-use Rattle.rules.specs.Terms.{Terms}
-use Rattle.rules.specs.Lines.{width_wrong}
-use Rattle.evidence.specs.declared.Span.{Span}
+use Rattle.std.specs.Prelude.{Option, Some, None, MatchOption, unwrap_or}
+use Rattle.std.specs.Borrow.{Bor}
+use Rattle.sets.specs.declared.Test.{Test}
+use Rattle.sets.specs.Sets.{test_of, test_at}
+use Rattle.sets.proofs.Sets.{was-found}
 use Rattle.rules.specs.Tests.{window}
-use Rattle.floats.specs.Finite.{all_finite}
-use Rattle.rules.specs.Finite.{finite_limits}
-use Rattle.rules.specs.Marking.{newest_first, stands, cuts_of}
-use Rattle.evidence.specs.Evidence.{Part, nothing, shown_at, evidence_of}
-use Rattle.evidence.specs.Steps.{span_at}
-use Rattle.rules.proofs.Stopped.{length-since}
+use Rattle.rules.specs.Terms.{Terms}
+use Rattle.evidence.specs.Evidence.{Part, nothing, part_at, shown_at, evidence_of, IsPart}
 
-abbrev pub spanned : Bool → Span → Part
-spanned second s = record { second = second; start = s.start; long = s.end - s.start }
-
-module _ (series : List Float) (terms : Terms) (at bit : ℕ) where
-  -- what is shown fits
-  shown-fits : shown_at series terms at bit ≡ true → window (test_of bit) ≤ suc at
-  unfolding shown_at stands
-  shown-fits h =
-      let past = newest_first (cuts_of terms) series (suc at) in
-      let w = window (test_of bit) in
-      let in-range = (both (ltb at (length series)) _ h).1 in
-      let sound = (both (ltb bit (length tests)) _ in-range).1 in
-      let stopped = (both (not (stops_wrong (main_points terms.moving (length series)) terms.stops)) _ sound).1 in
-      let mode = (both (not (width_wrong terms.width)) _ stopped).1 in
-      let finite = (both (finite_limits terms.limits) _ mode).1 in
-      let there = (both (all_finite (take w past)) _ finite).1 in
-      let fits : leb w (length past) ≡ true = (both (leb w (length past)) _ there).0 in
-      omega (arith, leb-true w (length past) fits, length-since (cuts_of terms) series at)
-
-  -- the part, by whether the pattern is shown
-  by-shown : (second : Bool) → cond (shown_at series terms at bit) (record { second = second; start = suc at - window (test_of bit); long = window (test_of bit) }) (record { second = second; start = 0; long = 0 })
-      ≡ spanned second (span_at series terms at bit)
-  unfolding span_at
-  by-shown second = go (shown_at series terms at bit) shown-fits
-    where
-      go : (b : Bool) → (b ≡ true → window (test_of bit) ≤ suc at)
-          → cond b (record { second = second; start = suc at - window (test_of bit); long = window (test_of bit) }) (record { second = second; start = 0; long = 0 })
-          ≡ spanned second (cond b (record { start = suc at - window (test_of bit); end = suc at }) (record { start = 0; end = 0 }))
-      go true h =
-          let fits = h refl in
-          let long : window (test_of bit) ≡ suc at - (suc at - window (test_of bit)) = omega arith in
-          ap (λ (n : ℕ). record { second = second; start = suc at - window (test_of bit); long = n }) long
-      go false h = refl
-
-  end-shown : shown_at series terms at bit ≡ true → (span_at series terms at bit).end ≡ suc at
-  unfolding span_at
-  end-shown e = simp e
-
-  end_none : shown_at series terms at bit ≡ false → (span_at series terms at bit).end ≡ 0
-  unfolding span_at
-  end_none e = simp e
+-- the n values of the window of the test that the code finds
+pub part-by-window : (second : Bool) (at bit : ℕ) (t : Test) → test_at bit ≡ Some t → (n : ℕ) → n ≡ window t → n ≤ at + 1
+    → part_at second at bit ≡ record { second = second; start = at + 1 - n; long = at + 1 - (at + 1 - n) }
+part-by-window second at bit t is n long fits =
+    let longs : n ≡ window (test_of bit) = long ∙ ap window (sym (was-found bit t is).1) in
+    let start : suc at - window (test_of bit) ≡ at + 1 - n = omega (arith, longs) in
+    let length-is : window (test_of bit) ≡ at + 1 - (at + 1 - n) = omega (arith, longs) in
+    ap₂ (λ (x y : ℕ). record { second = second; start = x; long = y }) start length-is
 
 module _ (main dispersion : List Float) (number : ℕ) (terms : Terms) (at bit : ℕ) where
-  abbrev found : Part
-  found = record { second = true; start = suc at - window (test_of bit); long = window (test_of bit) }
-
-  pub main-part : number ≡ 0 → evidence_of main dispersion number terms at bit ≡ spanned false (span_at main terms at bit)
+  pub main-part : number ≡ 0 → shown_at main terms at bit ≡ true → evidence_of main dispersion number terms at bit ≡ part_at false at bit
   unfolding evidence_of
-  main-part e = rw e (by-shown main terms at bit false)
+  main-part e s = simp (e, s)
 
-  pub second-part : number ≡ 1 → ((span_at dispersion terms at bit).end ≡ 0 → ⊥)
-      → evidence_of main dispersion number terms at bit ≡ spanned true (span_at dispersion terms at bit)
+  pub main-none : number ≡ 0 → shown_at main terms at bit ≡ false → evidence_of main dispersion number terms at bit ≡ nothing
   unfolding evidence_of
-  second-part e h = rw e (go (shown_at dispersion terms at bit) refl)
-    where
-      go : (b : Bool) → shown_at dispersion terms at bit ≡ b → cond b found nothing ≡ spanned true (span_at dispersion terms at bit)
-      go true s =
-          ap (λ (b : Bool). cond b found (record { second = true; start = 0; long = 0 })) (sym s) ∙ by-shown dispersion terms at bit true
-      go false s = absurd (h (end_none dispersion terms at bit s))
+  main-none e s = simp (e, s)
 
-  pub second_none : number ≡ 1 → (span_at dispersion terms at bit).end ≡ 0 → evidence_of main dispersion number terms at bit ≡ nothing
+  pub second-part : number ≡ 1 → shown_at dispersion terms at bit ≡ true → evidence_of main dispersion number terms at bit ≡ part_at true at bit
   unfolding evidence_of
-  second_none e h = rw e (go (shown_at dispersion terms at bit) refl)
-    where
-      go : (b : Bool) → shown_at dispersion terms at bit ≡ b → cond b found nothing ≡ nothing
-      go true s = absurd (omega (arith, end-shown dispersion terms at bit s))
-      go false s = refl
+  second-part e s = simp (e, s)
+
+  pub second_none : number ≡ 1 → shown_at dispersion terms at bit ≡ false → evidence_of main dispersion number terms at bit ≡ nothing
+  unfolding evidence_of
+  second_none e s = simp (e, s)
 
   pub no-series : 2 ≤ number → evidence_of main dispersion number terms at bit ≡ nothing
   unfolding evidence_of
   no-series h = simp (lt-leb number 1 h)
+
+-- ---- a part in memory: that of the window which was found, or the empty one
+
+module _ (main dispersion : Bor (List Float)) (second : Bool) (at bit : ℕ) where
+  abbrev whole : Bor (List Float)
+  whole = cond second dispersion main
+
+  -- a part of one series is one of both
+  placed : (part : Bor (List Float)) → IsPart whole whole part (part_at false at bit) → IsPart main dispersion part (part_at second at bit)
+  placed part p = by second p
+    where
+      by : (b : Bool) → IsPart (cond b dispersion main) (cond b dispersion main) part (part_at false at bit) → IsPart main dispersion part (part_at b at bit)
+      by true q = record { block = q.block; place = q.place; values = q.values }
+      by false q = record { block = q.block; place = q.place; values = q.values }
+
+  pub part_of : (shown : Bool) (e : Part) (empty r : Bor (List Float)) (o : Option (Bor (List Float)))
+      → MatchOption o (shown ≡ false) (λ part. (shown ≡ true) × IsPart whole whole part (part_at false at bit))
+      → r ≡ unwrap_or o empty → IsPart main dispersion empty nothing
+      → (shown ≡ true → e ≡ part_at second at bit) → (shown ≡ false → e ≡ nothing) → IsPart main dispersion r e
+  part_of shown e empty r None found is none found-there not-there = rw (is, not-there found) none
+  part_of shown e empty r (Some part) found is none found-there not-there = rw (is, found-there found.0) (placed part found.1)

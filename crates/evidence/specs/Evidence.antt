@@ -20,6 +20,10 @@ pub record Part : Type 0 where
 abbrev pub nothing : Part
 nothing = record { second = false; start = 0; long = 0 }
 
+-- the window of the test of that bit number that ends at the position
+abbrev pub part_at : Bool → ℕ → ℕ → Part
+part_at second at bit = record { second = second; start = suc at - window (test_of bit); long = window (test_of bit) }
+
 -- The position and the test are in range, the stops are some of the series, the width mode is one, the limits and the window's values are
 -- finite, the window fits and shows the pattern.
 unfoldable pub shown_at : List Float → Terms → ℕ → ℕ → Bool
@@ -36,7 +40,7 @@ shown_at series terms at bit =
 unfoldable pub evidence_of : List Float → List Float → ℕ → Terms → ℕ → ℕ → Part
 evidence_of main dispersion number terms at bit =
     cond (leb number 1 && shown_at (cond (eqb number 0) main dispersion) terms at bit)
-    (record { second = eqb number 1; start = suc at - window (test_of bit); long = window (test_of bit) })
+    (part_at (eqb number 1) at bit)
     nothing
 
 -- r is that part: in the memory of its series, from its start on (an f64 takes eight bytes), with its values

@@ -1,14 +1,14 @@
 // The window behind a mark.
 #![tactic(auto)]
 
-ghost use Rattle.std.specs.Prelude.{◌≡◌, ◌≤◌, length};
-ghost use Rattle.rules.specs.Terms.{under};
+ghost use Rattle.std.specs.Prelude.{◌≡◌, true, false, length, MatchOption};
+ghost use Rattle.rules.specs.Terms.{told};
 ghost use Rattle.rules.specs.Tests.{window};
-ghost use Rattle.evidence.specs.Evidence.{evidence_of, IsPart};
-ghost use Rattle.evidence.specs.Steps.{shows_alone, span_at};
+ghost use Rattle.evidence.specs.Evidence.{part_at, shown_at, evidence_of, IsPart};
+ghost use Rattle.evidence.specs.Steps.{shows_alone};
 
-use rules::{Limits, mark};
-use sets::{Found, RuleSet, Test};
+use rules::{Limits, Terms};
+use sets::{RuleSet, Test};
 
 // Whether a window of a test's length shows its pattern, the width mode being one and its values and the limits finite: the
 // window is marked as a series of its own, by a set with this test alone.
@@ -18,62 +18,51 @@ fn shows_pattern(part: &[f64], limits: Limits, width: u64, t: Test) -> bool
 {
     let mut marks = [0u16; 15];
     let set = RuleSet { mask: 1 << t.bit() };
-    let answered = mark(part, &[], false, limits, width, set, &mut marks);
-    if answered.number() != 0 {
+    let alone = Terms {
+        limits,
+        width,
+        stops: &[],
+        moving: false,
+    };
+    if rules::mark(part, alone, set, &mut marks).is_err() {
         return false;
     }
     marks[part.len() - 1] != 0
 }
 
-// Where a window starts and ends in its series.
-#[derive(Clone, Copy)]
-struct Span {
-    start: usize,
-    end: usize,
-}
-
-// The window that ends at a position, where it shows the pattern of a test, and else 0 and 0.
-fn span_at(
-    series: &[f64],
-    stops: &[usize],
-    moving: bool,
-    limits: Limits,
-    width: u64,
-    at: usize,
-    bit: u64,
-) -> Span
-    ensures { (result ≡ span_at series.now (under limits width stops.now moving) at bit) × (result.start ≤ result.end) × (result.end ≤ length series.now) }
+// The window of a series that ends at a position, where it shows the pattern of a test.
+fn window_at<'a>(series: &'a [f64], terms: Terms, at: usize, bit: u64) -> Option<&'a [f64]>
+    ensures { MatchOption result
+        (shown_at series.now (told terms.entry) at bit ≡ false)
+        (λ part. (shown_at series.now (told terms.entry) at bit ≡ true) × IsPart series.entry series.entry part (part_at false at bit)) }
 {
     if series.len() <= at {
-        return Span { start: 0, end: 0 };
+        return None;
     }
-    if stops::wrong(stops, moving, series.len()) {
-        return Span { start: 0, end: 0 };
+    if stops::wrong(terms.stops, terms.moving, series.len()) {
+        return None;
     }
-    let Found::Test(t) = Test::from_bit(bit) else {
-        return Span { start: 0, end: 0 };
-    };
+    let t = Test::from_bit(bit)?;
     let n = rules::window(t);
     let end = at + 1;
     if end < n {
-        return Span { start: 0, end: 0 };
+        return None;
     }
     let start = end - n;
-    if start < stops::since(stops, moving, at) {
-        return Span { start: 0, end: 0 };
+    if start < stops::since(terms.stops, terms.moving, at) {
+        return None;
     }
-    if shows_pattern(&series[start..end], limits, width, t) {
-        return Span { start, end };
+    if shows_pattern(&series[start..end], terms.limits, terms.width, t) {
+        return Some(&series[start..end]);
     }
-    Span { start: 0, end: 0 }
+    None
 }
 
 /// The window behind a mark: the part of the named series that ends at the position `at` and shows the pattern of the
 /// test with the bit number `bit`.
 ///
-/// `series` is 0 for `main` and 1 for `dispersion`, and `limits` are those of that series; `moving` says whether it is one of
-/// moving ranges, `stops` are those of its main series, and `width` is the width mode (see [`rules::mark`]). The part is one of
-/// the lent series itself, not a copy.
+/// `series` is 0 for `main` and 1 for `dispersion`, and `terms` are those of that series (see [`Terms`]). The part is one of the lent
+/// series itself, not a copy.
 ///
 /// # Refusals
 ///
@@ -90,29 +79,18 @@ pub fn evidence<'a>(
     main: &'a [f64],
     dispersion: &'a [f64],
     series: u64,
-    stops: &[usize],
-    moving: bool,
-    limits: Limits,
-    width: u64,
+    terms: Terms,
     at: usize,
     bit: u64,
 ) -> &'a [f64]
-    ensures { IsPart main.entry dispersion.entry result (evidence_of main.now dispersion.now series (under limits width stops.now moving) at bit) }
+    ensures { IsPart main.entry dispersion.entry result (evidence_of main.now dispersion.now series (told terms.entry) at bit) }
 {
+    let nothing = &main[..0];
     if series == 0 {
-        let span = span_at(main, stops, moving, limits, width, at, bit);
-        let start = span.start;
-        let end = span.end;
-        return &main[start..end];
+        return window_at(main, terms, at, bit).unwrap_or(nothing);
     }
     if series == 1 {
-        let span = span_at(dispersion, stops, moving, limits, width, at, bit);
-        let start = span.start;
-        let end = span.end;
-        if end == 0 {
-            return &main[0..0];
-        }
-        return &dispersion[start..end];
+        return window_at(dispersion, terms, at, bit).unwrap_or(nothing);
     }
-    &main[0..0]
+    nothing
 }

@@ -1,13 +1,14 @@
 -- What taking a value answers, refusal by refusal: marking's order, without what cannot apply to a single value. Two answers with the same
 -- numbers are one. Assumes nothing.
-use mathlib.Core.Path.{◌≡◌, refl, sym, ap, ap₂, ◌∙◌}
+use mathlib.Core.Path.{◌≡◌, ap, ap₂, ◌∙◌}
 use mathlib.Core.Bool.{true, false, not, cond, and-true}
 use mathlib.Core.List.{[], ◌∷◌}
 use Prim.Native.Nat.{ℕ, ◌≤◌, ◌<◌}
-use native.Mathlib.Omega.{arith}
-use borrow.Author.Tests.{lt-ltb, le-ltb, ne_eqb}
+use borrow.Author.Tests.{lt-ltb, le-ltb}
 use lib.Dec.{eqb}
 use lib.Ieee.{Float}
+use Rattle.std.specs.Prelude.{Result}
+use Rattle.numbers.proofs.Numbers.{answered-one}
 use Rattle.laws.specs.Bools.{every}
 use Rattle.laws.specs.Refusals.{first_of, each}
 use Rattle.laws.proofs.Refusals.{each_first}
@@ -15,16 +16,14 @@ use Rattle.floats.specs.Finite.{finite, all_finite}
 use Rattle.sets.specs.Sets.{too_large}
 use Rattle.stops.specs.Stops.{rising, stops_wrong}
 use Rattle.rules.specs.declared.Limits.{Limits}
+use Rattle.rules.specs.declared.Refusal.{Refusal}
 use Rattle.rules.specs.Finite.{finite_limits}
 use Rattle.rules.specs.Lines.{width_wrong, lines_of}
 use Rattle.rules.specs.Terms.{alone}
-use Rattle.rules.specs.Marking.{number, ahead, refusal}
+use Rattle.rules.specs.Marking.{ahead, refusal}
 use Rattle.rules.proofs.Accepted.{ahead-numbers}
-use Rattle.rules.proofs.Answers.{refusal_of, refusal-again, number-above}
-use Rattle.histories.specs.declared.Answer.{Answer}
-use Rattle.histories.specs.declared.Answer.TheVariants.{Marks, Refused}
+use Rattle.rules.proofs.Answers.{tells}
 use Rattle.histories.specs.declared.Lane.{Lane}
-use Rattle.histories.specs.declared.Taken.{Taken}
 use Rattle.histories.specs.Lanes.{after}
 use Rattle.histories.specs.Taking.{answered, Outcome, taken, unchanged, marked, take_value}
 
@@ -73,16 +72,9 @@ module _ (limits : Limits) (width set : ℕ) (lane : Lane) (v : Float) where
 
 -- ---- an answer is known by its numbers
 
-answer_of : ℕ × ℕ → Answer
-answer_of n = cond (eqb n.0 0) (Marks n.1) (Refused (refusal_of n.0))
+answered-same : (x y : Result ℕ Refusal) → answered x ≡ answered y → x ≡ y
+answered-same = answered-one tells _ _ (λ m n e. e)
 
-answer-again : (a : Answer) → answer_of (answered a) ≡ a
-unfolding answer_of
-answer-again (Marks m) = refl
-answer-again (Refused why) = simp (ne_eqb (number why) 0 (omega (arith, number-above why))) (ap Refused (refusal-again why))
-
-pub taken-one : (x y : Taken) → taken x ≡ taken y → x ≡ y
-taken-one x y e =
-    ap₂ (λ (a : Answer) (l : Lane). record { answer = a; lane = l })
-    (sym (answer-again x.answer) ∙ ap (λ (o : Outcome). answer_of (o.0, o.1)) e ∙ answer-again y.answer)
-    (ap (λ (o : Outcome). o.2) e)
+pub taken-one : (x y : Result ℕ Refusal) (l m : Lane) → taken x l ≡ taken y m → ◌≡◌ {A = Result ℕ Refusal × Lane} (x, l) (y, m)
+taken-one x y l m e =
+    ap₂ (λ (a : Result ℕ Refusal) (k : Lane). (a, k)) (answered-same x y (ap (λ (o : Outcome). (o.0, o.1)) e)) (ap (λ (o : Outcome). o.2) e)

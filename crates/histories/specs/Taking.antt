@@ -1,18 +1,17 @@
 -- What taking a value answers (02, R-3 and R-5). Definitions only.
-use Rattle.std.specs.Prelude.{Bool, ◌&&◌, [], ◌∷◌, ℕ, leb, Float}
+use Rattle.std.specs.Prelude.{Bool, ◌&&◌, [], ◌∷◌, ℕ, leb, Float, Result}
 use Rattle.laws.specs.Refusals.{first_of, each}
+use Rattle.numbers.specs.Numbers as numbers
 use Rattle.sets.specs.declared.Test.{Test}
 use Rattle.sets.specs.Sets.{has, set_of}
 use Rattle.rules.specs.declared.Limits.{Limits}
+use Rattle.rules.specs.declared.Refusal.{Refusal}
 use Rattle.rules.specs.Terms.{alone}
 use Rattle.rules.specs.Lines.{lines_of}
 use Rattle.rules.specs.Tests.{window}
 use Rattle.rules.specs.Marking.{number, ahead}
 use Rattle.rules.specs.Columns.{judge, rule_of, up_of, down_of}
 use Rattle.histories.specs.declared.Lane.{Lane}
-use Rattle.histories.specs.declared.Answer.{Answer}
-use Rattle.histories.specs.declared.Answer.TheVariants.{Marks, Refused}
-use Rattle.histories.specs.declared.Taken.{Taken}
 use Rattle.histories.specs.Lanes.{kept, column, after}
 
 -- ---- the marks of a lane
@@ -32,16 +31,15 @@ marks_at set lane = set_of (λ t. has set t && shown lane t)
 -- ---- what taking a value answers
 
 -- 01's number and the marks, which are zero where it refuses
-abbrev pub answered : Answer → ℕ × ℕ
-answered (Marks m) = (0, m)
-answered (Refused why) = (number why, 0)
+abbrev pub answered : Result ℕ Refusal → ℕ × ℕ
+answered = numbers.answered number (λ marks. marks) 0
 
 -- the same with the lane afterwards
 abbrev pub Outcome : Type 0
 Outcome = ℕ × ℕ × Lane
 
-abbrev pub taken : Taken → Outcome
-taken t = ((answered t.answer).0, (answered t.answer).1, t.lane)
+abbrev pub taken : Result ℕ Refusal → Lane → Outcome
+taken answer lane = ((answered answer).0, (answered answer).1, lane)
 
 -- a refusal: "a refused value changes nothing"
 abbrev pub unchanged : Lane → ℕ → Outcome

@@ -5,9 +5,8 @@
 mod reading;
 
 ghost use Rattle.std.specs.Prelude.{◌≡◌, suc};
-ghost use Rattle.rules.specs.Marking.{number};
 ghost use Rattle.histories.specs.Lanes.{pushed, held, after, fresh};
-ghost use Rattle.histories.specs.Taking.{answered, taken, unchanged, take_value};
+ghost use Rattle.histories.specs.Taking.{taken, take_value};
 
 use rules::{Limits, Lines, OWN_WIDTHS, Refusal};
 use sets::RuleSet;
@@ -20,7 +19,7 @@ const LONGEST: u16 = 15;
 /// bit 0; and how many values were seen, held at 15.
 ///
 /// The fields may be any, and every lane has its answer: a number of values seen over 15 counts as 15.
-#[derive(Clone, Copy)]
+#[derive(Clone, Copy, Debug, PartialEq)]
 pub struct Lane {
     /// The last value.
     pub last: f64,
@@ -48,38 +47,6 @@ pub struct Lane {
     pub beyond1: u16,
     /// How many values were seen, held at 15.
     pub seen: u16,
-}
-
-/// What is answered to a value.
-#[derive(Clone, Copy)]
-pub enum Answer {
-    /// The marks at it (0).
-    Marks(u16),
-    /// It is not taken.
-    Refused(Refusal),
-}
-
-/// What taking a value gives.
-#[derive(Clone, Copy)]
-pub struct Taken {
-    /// The marks at the value, or why it is refused.
-    pub answer: Answer,
-    /// The lane from now on: the one after the value, or at a refusal the lane as it was.
-    pub lane: Lane,
-}
-
-impl Answer {
-    /// 01's number of the answer.
-    ///
-    /// `Answer::Refused(Refusal::SetTooLarge).number()` is 4.
-    pub fn number(self) -> u8
-        ensures { result ≡ (answered self).0 }
-    {
-        match self {
-            Answer::Marks(_) => 0,
-            Answer::Refused(why) => why.number(),
-        }
-    }
 }
 
 // A history with one value more: the bits move up by one, and the oldest falls off.
@@ -147,21 +114,11 @@ impl Lane {
         }
     }
 
-    // The lane as it is, where a value is refused.
-    fn refuse(self, why: Refusal) -> Taken
-        ensures { taken result ≡ unchanged self (number why) }
-    {
-        Taken {
-            answer: Answer::Refused(why),
-            lane: self,
-        }
-    }
-
     /// Takes one value more, and marks it: test b of the set is set in bit b of the marks exactly where the window of the test
     /// that ends at the value fits and shows the test's pattern, among the values taken since [`Lane::start`] under these same
     /// limits and by this same width mode, which [`rules::mark`] explains. They may be any number; the set may be another at each.
     ///
-    /// Gives `Marks` with the marks, and the lane after the value.
+    /// Gives `Ok` with the marks, and the lane is the one after the value.
     ///
     /// # Refusals
     ///
@@ -175,30 +132,32 @@ impl Lane {
     ///
     /// ```
     /// let limits = Limits { ucl: 28.0, cl: 25.0, lcl: 22.0 };
-    /// let taken = Lane::start().take(26.5, limits, 0, RuleSet::nelson());   // Answer::Marks(0)
-    /// let taken = taken.lane.take(26.5, limits, 0, RuleSet::nelson());      // Answer::Marks(0)
+    /// let mut lane = Lane::start();
+    /// lane.take(26.5, limits, 0, RuleSet::nelson());   // Ok(0)
+    /// lane.take(26.5, limits, 0, RuleSet::nelson());   // Ok(0)
     /// ```
-    pub fn take(self, value: f64, limits: Limits, width: u64, set: RuleSet) -> Taken
-        ensures { taken result ≡ take_value limits width set.mask self value }
+    pub fn take(
+        &mut self,
+        value: f64,
+        limits: Limits,
+        width: u64,
+        set: RuleSet,
+    ) -> Result<u16, Refusal>
+        ensures { taken result self.new ≡ take_value limits width set.mask self.old value }
     {
-        let sound = rules::finite_limits(limits);
         if RuleSet::ALL < set.mask {
-            return self.refuse(Refusal::SetTooLarge);
+            return Err(Refusal::SetTooLarge);
         }
         if OWN_WIDTHS < width {
-            return self.refuse(Refusal::WidthMode);
+            return Err(Refusal::WidthMode);
         }
-        if !sound {
-            return self.refuse(Refusal::NotFinite);
+        if !rules::finite_limits(limits) {
+            return Err(Refusal::NotFinite);
         }
         if !floats::is_finite(value) {
-            return self.refuse(Refusal::NotFinite);
+            return Err(Refusal::NotFinite);
         }
-        let lane = self.after(rules::lines_of(limits, width), value);
-        let marks = reading::marks(lane, set.mask);
-        Taken {
-            answer: Answer::Marks(marks),
-            lane,
-        }
+        *self = self.after(rules::lines_of(limits, width), value);
+        Ok(reading::marks(*self, set.mask))
     }
 }

@@ -5,7 +5,7 @@ use Prim.Native.Nat.{ℕ, ◌+◌, ◌<◌}
 use native.Mathlib.Numerals.{add-one}
 use lib.ListN.{length, get_or, take}
 use lib.Seq.{take-suc}
-use Rattle.std.proofs.lemmas.List.{map-append}
+use Rattle.std.proofs.lemmas.List.{map-append, map-id}
 use Rattle.groups.specs.Groups.{groups}
 use Rattle.lists.specs.Ours.{in_groups}
 
@@ -26,3 +26,17 @@ in_groups_more f xs i x h e =
     ∙ ap in_groups (map-append f (take i xs) (x ∷ []))
     ∙ in_groups-append (map f (take i xs)) (f x ∷ [])
     ∙ ap (λ (l : List ℕ). in_groups (map f (take i xs)) ++ l) (in_groups-one (f x))
+
+-- what was put: a number by itself, a row that stands as it is, and numbers behind others
+pub put_one : (old : List ℕ) (x : ℕ) {new : List ℕ} → new ≡ old ++ groups x → new ≡ old ++ in_groups (x ∷ [])
+put_one old x e = e ∙ ap (λ (l : List ℕ). old ++ l) (sym (in_groups-one x))
+
+pub put_plain : (old xs : List ℕ) {new : List ℕ} → new ≡ old ++ in_groups (map (λ x. x) xs) → new ≡ old ++ in_groups xs
+put_plain old xs e = e ∙ ap (λ (l : List ℕ). old ++ in_groups l) (map-id xs)
+
+pub put_then : (old xs ys : List ℕ) {mid new : List ℕ} → mid ≡ old ++ in_groups xs → new ≡ mid ++ in_groups ys → new ≡ old ++ in_groups (xs ++ ys)
+put_then old xs ys e f =
+    f
+    ∙ ap (λ (l : List ℕ). l ++ in_groups ys) e
+    ∙ append_assoc old (in_groups xs) (in_groups ys)
+    ∙ ap (λ (l : List ℕ). old ++ l) (sym (in_groups-append xs ys))

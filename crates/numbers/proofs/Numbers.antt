@@ -1,7 +1,8 @@
 -- Two answers with one number and one value are one answer: so a promise on the number and the value fixes the answer. Assumes nothing.
-use mathlib.Core.Path.{◌≡◌, sym, ap}
+use mathlib.Core.Path.{◌≡◌, refl, sym, ap}
+use mathlib.Core.Bool.{true, false, false≢true}
 use Prim.Native.Nat.{ℕ}
-use Rattle.std.specs.Prelude.{Result, Ok, Err}
+use Rattle.std.specs.Prelude.{Result, Ok, Err, is_err}
 use Rattle.numbers.specs.Numbers.{numbered, answered}
 
 -- The numbers of refusals are not 0 and tell them apart.
@@ -23,3 +24,12 @@ module _ {A E : Type 0} {number : E → ℕ} (tells : Telling number) where
     answered-one (Ok a) (Err y) e = absurd (tells.not_done y (ap (λ p. p.0) e))
     answered-one (Err x) (Ok b) e = absurd (tells.not_done x (ap (λ p. p.0) (sym e)))
     answered-one (Err x) (Err y) e = ap (λ (w : E). Err w) (tells.one x y (ap (λ p. p.0) e))
+
+  -- whether it is a refusal, by the number
+  pub done-number : (x : Result A E) → is_err x ≡ false → numbered number x ≡ 0
+  done-number (Ok a) e = refl
+  done-number (Err why) e = absurd (false≢true (sym e))
+
+  pub refused-number : (x : Result A E) → is_err x ≡ true → numbered number x ≡ 0 → ⊥
+  refused-number (Ok a) e z = absurd (false≢true e)
+  refused-number (Err why) e z = tells.not_done why (sym z)

@@ -10,11 +10,11 @@ use Rattle.laws.specs.Bools.{every}
 use Rattle.laws.specs.Lists.{tabulate_from, tabulate}
 use Rattle.laws.proofs.Bools.{both}
 use Rattle.laws.proofs.Lists.{length-tabulate, tabulate-map}
-use Rattle.laws.proofs.Filling.{Tabling, tabling-starts, tabling-goes-on, tabling-all, in_place}
+use Rattle.laws.proofs.Filling.{Tabling, tabling-starts, tabling-goes-on, in_place}
 use Rattle.laws.proofs.Judged.{Judged, judged-starts, judged-next, judged-all}
 use Rattle.floats.specs.Finite.{finite, all_finite}
 use Rattle.floats.proofs.Infinite.{finite-sum, finite-product}
-use Rattle.points.specs.Points.{upper_of, lower_of, beyond, has_z, z_of, Point, point_at, column, Plot, uppers, lowers, outs, zs, has_zs, sound}
+use Rattle.points.specs.Points.{upper_of, lower_of, beyond, has_z, z_of, Point, point_at, column, Plot, uppers, lowers, sound}
 use Rattle.points.specs.Steps.{plot_by}
 
 -- ---- points of which all is finite
@@ -128,21 +128,8 @@ module _ (cl : Float) (vs ss : List Float) where
             of-all = judged-next _ _ _ _ c.of-all finite-so h (f ∙ ap₂ (λ (x y : Float). finite (get_or vs i nan) && finite x && finite y) up low);
           }
 
-      pub columns-end : {centre : Bool} → Long → length vs ≤ i → centre ≡ finite cl
-          → ((centre && all) ≡ sound g) × ((ucl ≡ uppers g) × ((lcl ≡ lowers g) × ((out ≡ outs g) × ((z ≡ zs g) × (has ≡ has_zs g)))))
-      columns-end long h e = (
-        sound-is long.0 e (judged-all _ _ _ _ c.of-all h),
-        (
-          tabling-all _ _ _ _ _ c.of-ucl (omega (arith, long)) h,
-          (
-            tabling-all _ _ _ _ _ c.of-lcl (omega (arith, long)) h,
-            (
-              tabling-all _ _ _ _ _ c.of-out (omega (arith, long)) h,
-              (tabling-all _ _ _ _ _ c.of-z (omega (arith, long)) h, tabling-all _ _ _ _ _ c.of-has-z (omega (arith, long)) h),
-            ),
-          ),
-        ),
-      )
+      pub columns-sound : length ss ≡ length vs → length vs ≤ i → {centre : Bool} → centre ≡ finite cl → (centre && all) ≡ sound g
+      columns-sound long h e = sound-is long e (judged-all _ _ _ _ c.of-all h)
 
 -- a column has as many entries as there are points
 pub column-length : {A : Type 0} (f : Point → A) (g : Plot) → length (column f g) ≡ length g.values

@@ -1,12 +1,11 @@
 -- Plotting: what passed lengths tell, and each case of the answer. Assumes nothing.
 use mathlib.Core.Path.{◌≡◌, refl, sym, ap, ap₂, ◌∙◌}
-use mathlib.Core.Bool.{Bool, true, false, not, cond, ◌||◌}
-use mathlib.Core.List.{List, [], ◌∷◌, ◌++◌}
-use Prim.Native.Nat.{ℕ, ◌-◌, ◌≤◌}
-use native.Mathlib.Nat.{sub-zero}
+use mathlib.Core.Bool.{Bool, true, false, not, ◌||◌, or-false, or_assoc}
+use mathlib.Core.List.{List, [], ◌∷◌, ◌++◌, foldl}
+use Rattle.std.specs.List.{list_any}
+use Prim.Native.Nat.{ℕ, ◌≤◌}
 use borrow.Author.Tests.{ltb-false, le-ltb}
-use lib.Dec.{ltb, eqb}
-use lib.Ieee.{Float}
+use lib.Dec.{ltb}
 use lib.ListN.{length, take, drop, replicate, take-append-drop}
 use lib.Seq.{length-take-le, length_front}
 use Rattle.laws.specs.Refusals.{first_of}
@@ -14,11 +13,14 @@ use Rattle.laws.specs.Front.{lent_after}
 use Rattle.laws.proofs.Bools.{or_left, or_right}
 use Rattle.laws.proofs.LentAfter.{slice-7, slice-done}
 use Rattle.laws.proofs.Refusals.{passed, refused, none-applies}
-use Rattle.points.specs.declared.Plotted.{Plotted}
-use Rattle.points.specs.declared.Plotted.TheVariants as plotting
+use native.Mathlib.Omega.{arith}
+use Rattle.std.specs.Prelude.{Result, Ok, Err}
+use Rattle.numbers.proofs.Numbers.{Telling}
+use Rattle.points.specs.declared.Refusal.{Refusal}
+use Rattle.points.specs.declared.Refusal.TheVariants.{TooShort, Overflow}
 use Rattle.points.specs.Points.{Plot, sound}
-use Rattle.points.specs.Plotting.{plotted, any_shorter, plot_from, plot_number}
-use Rattle.points.specs.Steps.{plot_by, settled}
+use Rattle.points.specs.Plotting.{number, plotted, any_shorter, plot_number}
+use Rattle.points.specs.Steps.{settled}
 
 -- ---- room for n points
 
@@ -50,20 +52,32 @@ pub none-shorter : (n a b c d e f : ℕ) → Room n a b c d e f → any_shorter 
 none-shorter n a b c d e f r =
     rw (le-ltb a n r.in-values, le-ltb b n r.in-ucl, le-ltb c n r.in-lcl, le-ltb d n r.in-out, le-ltb e n r.in-z, le-ltb f n r.in-has-z) refl
 
+-- some length is shorter
+pub any-shorter : (n : ℕ) (t : Bool) (lengths : List ℕ) → (t || list_any (λ (l : ℕ). ltb l n) lengths) ≡ foldl (λ (t : Bool) (l : ℕ). t || ltb l n) t lengths
+any-shorter n t [] = or-false t
+any-shorter n t (l ∷ lengths) = sym (or_assoc t (ltb l n) (list_any (λ (l : ℕ). ltb l n) lengths)) ∙ any-shorter n (t || ltb l n) lengths
+
 -- ---- the number
 
+tells : Telling number
+tells = record { not_done = not_done; one = one }
+  where
+    not_done : (why : Refusal) → 0 ≡ number why → ⊥
+    not_done TooShort e = omega arith
+    not_done Overflow e = omega arith
+
+    one : (a b : Refusal) → number a ≡ number b → a ≡ b
+    one TooShort TooShort e = refl
+    one TooShort Overflow e = absurd (omega arith)
+    one Overflow TooShort e = absurd (omega arith)
+    one Overflow Overflow e = refl
+
 -- it fixes the answer
-named : ℕ → Plotted
-named n = cond (eqb n 0) plotting.Done (cond (eqb n 6) plotting.TooShort plotting.Overflow)
-
-named-plotted : (a : Plotted) → named (plotted a) ≡ a
-unfolding named
-named-plotted plotting.Done = refl
-named-plotted plotting.TooShort = refl
-named-plotted plotting.Overflow = refl
-
-pub plotted-one : (a b : Plotted) → plotted a ≡ plotted b → a ≡ b
-plotted-one a b e = sym (named-plotted a) ∙ ap named e ∙ named-plotted b
+pub plotted-one : (a b : Result (Unit {0}) Refusal) → plotted a ≡ plotted b → a ≡ b
+plotted-one (Ok a) (Ok b) e = refl
+plotted-one (Ok a) (Err why) e = absurd (tells.not_done why e)
+plotted-one (Err why) (Ok b) e = absurd (tells.not_done why (sym e))
+plotted-one (Err a) (Err b) e = ap (λ (w : Refusal). Err w) (tells.one a b e)
 
 module _ (short : Bool) (g : Plot) where
   pub number-6 : short ≡ true → 6 ≡ plot_number short g
@@ -85,21 +99,18 @@ module _ (short : Bool) (g : Plot) where
   pub number-0 : short ≡ false → sound g ≡ true → 0 ≡ plot_number short g
   number-0 h e = sym (decided h ∙ ap settled e)
 
--- ---- parts from 0 to n
-
-pub plot-of-parts : (cl : Float) (n : ℕ) (vs ss : List Float) → plot_by cl (take (n - 0) vs) (take (n - 0) ss) ≡ plot_from cl n vs ss
-plot-of-parts cl n vs ss = ap (λ (k : ℕ). plot_by cl (take k vs) (take k ss)) (sub-zero n)
+-- ---- fronts of n entries
 
 module _ {A : Type 0} (nought : A) (n : ℕ) where
   -- a part came back, and all was zeroed
-  pub part-zeroed : (written part old : List A) {now : List A} → length part ≡ length (take (n - 0) old)
-      → now ≡ replicate (length (part ++ drop (n - 0) old)) nought → now ≡ lent_after 7 nought written old
-  part-zeroed written part old k e = slice-7 nought written old (part ++ drop (n - 0) old) (length_front old part (n - 0) k) e
+  pub part-zeroed : (written part old : List A) {now : List A} → length part ≡ length (take n old)
+      → now ≡ replicate (length (part ++ drop n old)) nought → now ≡ lent_after 7 nought written old
+  part-zeroed written part old k e = slice-7 nought written old (part ++ drop n old) (length_front old part n k) e
 
   -- a part came back written
-  pub part-written : (written part old : List A) → part ≡ written → length written ≡ n → part ++ drop (n - 0) old ≡ lent_after 0 nought written old
+  pub part-written : (written part old : List A) → part ≡ written → length written ≡ n → part ++ drop n old ≡ lent_after 0 nought written old
   part-written written part old e k =
-      slice-done nought written written old (ap₂ (λ (l : List A) (m : ℕ). l ++ drop m old) e (sub-zero n ∙ sym k)) refl
+      slice-done nought written written old (ap₂ (λ (l : List A) (m : ℕ). l ++ drop m old) e (sym k)) refl
 
   -- a front that was only read
   pub front_kept : (old : List A) → n ≤ length old → old ≡ lent_after 0 nought (take n old) old

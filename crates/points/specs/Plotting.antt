@@ -1,16 +1,19 @@
 -- Plotting: the number that it answers (02, R-2: "6, then 7"). Definitions only.
-use Rattle.std.specs.Prelude.{Bool, false, not, ◌||◌, ℕ, ltb, Float, take}
+use Rattle.std.specs.Prelude.{Bool, false, not, ◌||◌, ℕ, ltb, Float, take, Result}
 use mathlib.Core.List.{List, [], ◌∷◌, foldl}
 use Rattle.laws.specs.Refusals.{first_of}
-use Rattle.points.specs.declared.Plotted.{Plotted}
-use Rattle.points.specs.declared.Plotted.TheVariants as plotting
+use Rattle.numbers.specs.Numbers.{numbered}
+use Rattle.points.specs.declared.Refusal.{Refusal}
+use Rattle.points.specs.declared.Refusal.TheVariants.{TooShort, Overflow}
 use Rattle.points.specs.Points.{Plot, sound}
 
--- the number of each answer
-abbrev pub plotted : Plotted → ℕ
-plotted plotting.Done = 0
-plotted plotting.TooShort = 6
-plotted plotting.Overflow = 7
+-- the number of each refusal, and of the answer
+abbrev pub number : Refusal → ℕ
+number TooShort = 6
+number Overflow = 7
+
+abbrev pub plotted : Result (Unit {0}) Refusal → ℕ
+plotted = numbered number
 
 -- 6: a lent slice is shorter than needed
 abbrev pub any_shorter : ℕ → List ℕ → Bool

@@ -28,8 +28,8 @@ pub fn fill_all(
 {
     let centre = floats::is_finite(cl);
     let mut all = true;
-    let mut i = 0;
-    while i < values.len() {
+    // By the index: a zip of six slices is no plainer.
+    for i in 0..values.len() {
         let value = values[i];
         let sigma = ucl[i];
         let upper = point::upper(cl, sigma);
@@ -40,7 +40,6 @@ pub fn fill_all(
         z[i] = point::standardized(value, cl, sigma);
         has_z[i] = 0.0 < sigma;
         all = all & point::is_finite(value, upper, lower);
-        i += 1;
     }
     centre & all
 }

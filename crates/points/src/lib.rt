@@ -3,57 +3,47 @@
 
 mod columns;
 mod point;
-mod zeros;
 
 ghost use Rattle.std.specs.Prelude.{◌≡◌, false, [], ◌∷◌, length, take};
 ghost use Rattle.laws.specs.Front.{lent_after};
 ghost use Rattle.floats.specs.Values.{plus_zero};
 ghost use Rattle.points.specs.Points.{uppers, lowers, outs, zs, has_zs};
-ghost use Rattle.points.specs.Plotting.{plotted, any_shorter, plot_from, plot_number};
+ghost use Rattle.points.specs.Plotting.{number, plotted, any_shorter, plot_from, plot_number};
 
-/// What plotting answers.
-#[derive(Clone, Copy)]
-pub enum Plotted {
-    /// The points stand at the front of the slices (0).
-    Done,
+use numbers::Numbered;
+
+/// Why plotting is refused. The number is that of documents 01 and 02.
+#[derive(Clone, Copy, Debug, PartialEq, Eq)]
+pub enum Refusal {
     /// A slice is shorter than there are points; all are as they came (6).
     TooShort,
     /// The centre, a value, a sigma or a limit is not finite; all slices are zero throughout (7).
     Overflow,
 }
 
-impl Plotted {
-    /// The answer's number in documents 01 and 02.
+impl Numbered for Refusal {
+    ghost number = { number };
+
+    /// The refusal's number in documents 01 and 02.
     ///
-    /// `Plotted::Overflow.number()` is 7.
-    pub fn number(self) -> u8
-        ensures { result ≡ plotted self }
-    {
+    /// `Refusal::Overflow.number()` is 7.
+    fn number(&self) -> u8 {
         match self {
-            Plotted::Done => 0,
-            Plotted::TooShort => 6,
-            Plotted::Overflow => 7,
+            Refusal::TooShort => 6,
+            Refusal::Overflow => 7,
         }
     }
 }
 
-/// Whether one of the six slices of [`plot`], given by their lengths, is too short for n points.
+/// Whether one of the slices of [`plot`], given by their lengths, is too short for n points.
 ///
 /// Refuses nothing.
 ///
-/// `too_short(2, 2, 2, 2, 2, 2, 1)` is `true`.
-pub fn too_short(
-    n: usize,
-    values: usize,
-    ucl: usize,
-    lcl: usize,
-    out: usize,
-    z: usize,
-    has_z: usize,
-) -> bool
-    ensures { result ≡ any_shorter n (values ∷ ucl ∷ lcl ∷ out ∷ z ∷ has_z ∷ []) }
+/// `too_short(2, &[2, 2, 2, 2, 2, 1])` is `true`.
+pub fn too_short(n: usize, lengths: &[usize]) -> bool
+    ensures { result ≡ any_shorter n lengths.now }
 {
-    (values < n) | (ucl < n) | (lcl < n) | (out < n) | (z < n) | (has_z < n)
+    lengths.iter().any(|length| *length < n)
 }
 
 /// Plots n points about a centre. Their values stand at the front of `values`, their sigmas at the front of `ucl`, where the
@@ -66,6 +56,9 @@ pub fn too_short(
 ///
 /// About the centre 16.0, a point with the value 29.0 and the sigma 4.0 has the limits 28.0 and 4.0, is out of control, and
 /// has the standardized value 3.25.
+//
+// Six slices, and no struct of them: a contract would tell what each holds in the end by its place in nested pairs, as
+// `columns.exit.1.1.0.now`, and by no name.
 pub fn plot(
     cl: f64,
     n: usize,
@@ -75,7 +68,7 @@ pub fn plot(
     out: &mut [bool],
     z: &mut [f64],
     has_z: &mut [bool],
-) -> Plotted
+) -> Result<(), Refusal>
     ensures answer { plotted result
         ≡ plot_number (any_shorter n (length values.old ∷ length ucl.old ∷ length lcl.old
         ∷ length out.old ∷ length z.old ∷ length has_z.old ∷ []))
@@ -92,29 +85,34 @@ pub fn plot(
     ensures has_z { has_z.new
         ≡ lent_after (plotted result) false (has_zs (plot_from cl n values.old ucl.old)) has_z.old }
 {
-    if too_short(
-        n,
+    let lengths = [
         values.len(),
         ucl.len(),
         lcl.len(),
         out.len(),
         z.len(),
         has_z.len(),
-    ) {
-        return Plotted::TooShort;
+    ];
+    if too_short(n, &lengths) {
+        return Err(Refusal::TooShort);
     }
     let sound = columns::fill_all(
         cl,
-        &values[0..n],
-        &mut ucl[0..n],
-        &mut lcl[0..n],
-        &mut out[0..n],
-        &mut z[0..n],
-        &mut has_z[0..n],
+        &values[..n],
+        &mut ucl[..n],
+        &mut lcl[..n],
+        &mut out[..n],
+        &mut z[..n],
+        &mut has_z[..n],
     );
     if !sound {
-        zeros::zero_all(values, ucl, lcl, out, z, has_z);
-        return Plotted::Overflow;
+        values.fill(0.0);
+        ucl.fill(0.0);
+        lcl.fill(0.0);
+        out.fill(false);
+        z.fill(0.0);
+        has_z.fill(false);
+        return Err(Refusal::Overflow);
     }
-    Plotted::Done
+    Ok(())
 }

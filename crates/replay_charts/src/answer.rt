@@ -1,10 +1,18 @@
 // The answer of a chart case (oracle/FORMAT.md): ours in the bytes in which a list has it, and the place past a stored one.
-ghost use Rattle.std.specs.Prelude.{◌≤◌, ◌≡◌};
-ghost use Rattle.lists.specs.Ours.{Put};
-ghost use Rattle.replay_charts.specs.Answer.{figure_of, figures_of, series_of, counts_of, apart, answer_of};
+ghost use Rattle.std.specs.Prelude.{◌≤◌, ◌≡◌, ◌++◌, OnOk};
+ghost use Rattle.lists.specs.Ours.{in_groups};
+ghost use Rattle.lists.specs.Outcomes.{OnlyIf};
+ghost use Rattle.replay_charts.specs.Answer.{figure_of, figures_of, series_of, counts_of, found_of, apart, answer_of, rows};
 
-use crate::answers::{Answers, Told};
-use lists::{Item, Passed, Small};
+use crate::answers::{Answers, Series};
+use charts::Refusal;
+use evaluating::Evaluation;
+use groups::TooShort;
+use lists::{Bytes, Difference, Fault, Item, Outcome};
+use numbers::Numbered;
+
+// The bytes of the longest answer: 8,192 points of ten bytes with marks of two, and some numbers more.
+const LONGEST: usize = 100_000;
 
 // 01's numbers for bad stops and for a bad width mode.
 const BAD_STOPS: u16 = 15;
@@ -19,117 +27,113 @@ pub fn apart(number: u16) -> bool
 }
 
 // A figure: its answer, and the figure where there is one.
-fn put_figure(out: &mut [u8], at: usize, ours: Told) -> usize
-    ensures { Put (figure_of ours) at out.old result out.new }
+fn put_figure(ours: &mut Bytes<LONGEST>, figure: Result<f64, Refusal>) -> Result<(), TooShort>
+    ensures { OnOk result (ours.new ≡ ours.old ++ in_groups (figure_of figure)) }
 {
-    let a = lists::put_number(out, at, ours.number as u64);
-    if ours.number != 0 {
-        return a;
+    match figure {
+        Ok(value) => {
+            ours.put(0)?;
+            ours.put(lists::bits(value))
+        }
+        Err(why) => ours.put(u64::from(why.number())),
     }
-    lists::put_number(out, a, lists::bits(ours.value))
 }
 
 // Both figures.
-fn put_figures(out: &mut [u8], at: usize, ours: Answers) -> usize
-    ensures { Put (figures_of ours) at out.old result out.new }
+fn put_figures(ours: &mut Bytes<LONGEST>, answers: Answers) -> Result<(), TooShort>
+    ensures { OnOk result (ours.new ≡ ours.old ++ in_groups (figures_of answers)) }
 {
-    let a = put_figure(out, at, ours.sigma_hat);
-    put_figure(out, a, ours.sigma_hat_df)
+    put_figure(ours, answers.sigma_hat)?;
+    put_figure(ours, answers.sigma_hat_df)
 }
 
 // The series and their marks.
-fn put_series(
-    out: &mut [u8],
-    at: usize,
-    main: &[f64],
-    dispersion: &[f64],
-    main_marks: &[u16],
-    dispersion_marks: &[u16],
-) -> usize
-    ensures { Put (series_of main.now dispersion.now main_marks.now
-        dispersion_marks.now) at out.old result out.new }
+fn put_series(ours: &mut Bytes<LONGEST>, series: Series) -> Result<(), TooShort>
+    ensures { OnOk result (ours.new ≡ ours.old ++ in_groups (series_of (rows series.entry))) }
 {
-    let a = lists::put_floats(out, at, main);
-    let b = lists::put_floats(out, a, dispersion);
-    let c = lists::put_marks(out, b, main_marks);
-    lists::put_marks(out, c, dispersion_marks)
+    ours.put_row(series.main)?;
+    ours.put_row(series.dispersion)?;
+    ours.put_row(series.main_marks)?;
+    ours.put_row(series.dispersion_marks)
 }
 
 // What follows the series: the number of marks, whether none stands, and both figures.
-fn put_counts(out: &mut [u8], at: usize, ours: Answers) -> usize
-    ensures { Put (counts_of ours) at out.old result out.new }
+fn put_counts(ours: &mut Bytes<LONGEST>, marks: usize, answers: Answers) -> Result<(), TooShort>
+    ensures { OnOk result (ours.new ≡ ours.old ++ in_groups (counts_of marks answers)) }
 {
-    let found = ours.found;
-    let a = lists::put_number(out, at, found.marks as u64);
-    let b = lists::put_number(out, a, ours.none_stands as u64);
-    put_figures(out, b, ours)
+    ours.put(marks as u64)?;
+    ours.put(u64::from(answers.none_stands))?;
+    put_figures(ours, answers)
 }
 
-/// Writes our answer to the front of a room, and gives the place past it.
-pub fn put_answer(
-    out: &mut [u8],
-    ours: Answers,
-    main: &[f64],
-    dispersion: &[f64],
-    main_marks: &[u16],
-    dispersion_marks: &[u16],
-) -> usize
-    ensures { Put (answer_of ours main.now dispersion.now main_marks.now
-        dispersion_marks.now) 0 out.old result out.new }
+// What follows where evaluating is not refused.
+fn put_found(
+    ours: &mut Bytes<LONGEST>,
+    found: Evaluation,
+    answers: Answers,
+    series: Series,
+) -> Result<(), TooShort>
+    ensures { OnOk result (ours.new ≡ ours.old ++ in_groups (found_of found answers (rows series.entry))) }
 {
-    let a = lists::put_number(out, 0, ours.number as u64);
-    if apart(ours.number as u16) {
-        return put_figures(out, a, ours);
-    }
-    if ours.number != 0 {
-        return a;
-    }
-    let found = ours.found;
     let x = found.main;
     let y = found.dispersion;
-    let lines = [x.ucl, x.cl, x.lcl, y.ucl, y.cl, y.lcl];
-    let b = lists::put_floats(out, a, &lines);
-    let c = lists::put_number(out, b, dispersion.len() as u64);
-    let d = put_series(out, c, main, dispersion, main_marks, dispersion_marks);
-    put_counts(out, d, ours)
+    ours.put_row(&[x.ucl, x.cl, x.lcl, y.ucl, y.cl, y.lcl])?;
+    ours.put(series.dispersion.len() as u64)?;
+    put_series(ours, series)?;
+    put_counts(ours, found.marks, answers)
 }
 
-fn pass_figure(list: &[u8], so_far: Passed) -> Passed {
-    match so_far {
-        Passed::Next(at) => match lists::read_answer(list, at, 8) {
-            Small::Read(answer) => {
-                if answer.value != 0 {
-                    return Passed::Next(answer.next);
-                }
-                lists::pass_numbers(list, answer.next, Item::Answer, 1)
-            }
-            Small::Fault(fault) => Passed::Fault(fault),
-        },
-        Passed::Fault(fault) => Passed::Fault(fault),
+// Writes our answer.
+fn put(ours: &mut Bytes<LONGEST>, answers: Answers, series: Series) -> Result<(), TooShort>
+    ensures { OnOk result (ours.new ≡ ours.old ++ in_groups (answer_of answers (rows series.entry))) }
+{
+    let number = answers.evaluated.number();
+    let figures_follow = apart(u16::from(number));
+    ours.put(u64::from(number))?;
+    match answers.evaluated {
+        Ok(found) => put_found(ours, found, answers, series),
+        Err(_) if figures_follow => put_figures(ours, answers),
+        Err(_) => Ok(()),
     }
 }
 
-fn pass_figures(list: &[u8], so_far: Passed) -> Passed {
-    pass_figure(list, pass_figure(list, so_far))
+/// Holds our answer to the stored one.
+pub fn hold(stored: &[u8], answers: Answers, series: Series) -> Outcome
+    ensures { OnlyIf (in_groups (answer_of answers (rows series.entry)) ≡ stored.now) result }
+{
+    let mut ours = Bytes::new();
+    match put(&mut ours, answers, series) {
+        Ok(()) => lists::compare(ours.as_slice(), stored),
+        Err(_) => Err(Difference::Length(LONGEST + 1)),
+    }
+}
+
+fn pass_figure(list: &[u8], at: usize) -> Result<usize, Fault> {
+    let answer = lists::read_answer(list, at, 8)?;
+    if answer.value != 0 {
+        return Ok(answer.next);
+    }
+    lists::pass_numbers(list, answer.next, Item::Answer, 1)
+}
+
+fn pass_figures(list: &[u8], at: usize) -> Result<usize, Fault> {
+    let second = pass_figure(list, at)?;
+    pass_figure(list, second)
 }
 
 /// Passes over a stored answer, whose series have so many points together.
-pub fn pass_answer(list: &[u8], at: usize, points: usize) -> Passed
+pub fn pass(list: &[u8], at: usize, points: usize) -> Result<usize, Fault>
     requires { points ≤ 8192 }
 {
-    match lists::read_answer(list, at, BAD_WIDTH) {
-        Small::Read(answer) => {
-            if apart(answer.value) {
-                return pass_figures(list, Passed::Next(answer.next));
-            }
-            if answer.value != 0 {
-                return Passed::Next(answer.next);
-            }
-            // the limits, how many points the second series has, each point with its marks, their number, whether none stands
-            let many = 6 + 1 + 2 * points + 2;
-            let counts = lists::pass_numbers(list, answer.next, Item::Answer, many);
-            pass_figures(list, counts)
-        }
-        Small::Fault(fault) => Passed::Fault(fault),
+    let answer = lists::read_answer(list, at, BAD_WIDTH)?;
+    if apart(answer.value) {
+        return pass_figures(list, answer.next);
     }
+    if answer.value != 0 {
+        return Ok(answer.next);
+    }
+    // the limits, how many points the second series has, each point with its marks, their number, whether none stands
+    let many = 6 + 1 + 2 * points + 2;
+    let counts = lists::pass_numbers(list, answer.next, Item::Answer, many)?;
+    pass_figures(list, counts)
 }

@@ -1,55 +1,45 @@
 // The answer of a marks case (oracle/FORMAT.md): ours in the bytes in which a list has it, and the place past a stored one.
-ghost use Rattle.std.specs.Prelude.{◌≡◌};
-ghost use Rattle.lists.specs.Ours.{Put, in_groups};
-ghost use Rattle.lists.specs.Outcomes.{OnlyIf, stretch};
+ghost use Rattle.std.specs.Prelude.{◌≡◌, ◌++◌, OnOk};
+ghost use Rattle.lists.specs.Ours.{in_groups};
+ghost use Rattle.lists.specs.Outcomes.{OnlyIf};
 ghost use Rattle.replay_marks.specs.Held.{answer_bytes};
 
-use lists::{Item, Outcome, Passed, Small};
+use groups::TooShort;
+use lists::{Bytes, Difference, Fault, Item, Outcome};
 
-// Writes our answer to the front of a room, and gives the place past it.
-fn put(out: &mut [u8], stopped: bool, number: u8, marks: &[u16]) -> usize
-    ensures { Put (answer_bytes stopped number marks.now) 0 out.old result out.new }
+// The bytes of the longest answer: a number of one byte and 4,096 marks of two.
+const LONGEST: usize = 8193;
+
+// Writes our answer.
+fn put(ours: &mut Bytes<LONGEST>, stopped: bool, number: u8, marks: &[u16]) -> Result<(), TooShort>
+    ensures { OnOk result (ours.new ≡ ours.old ++ in_groups (answer_bytes stopped number marks.now)) }
 {
-    if stopped {
-        let at = lists::put_number(out, 0, number as u64);
-        return lists::put_marks(out, at, marks);
+    if !stopped {
+        return ours.put_row(marks);
     }
-    lists::put_marks(out, 0, marks)
+    ours.put(u64::from(number))?;
+    ours.put_row(marks)
 }
 
-/// Holds our answer to the stored one, which stands in the list from `at` to `next`.
-pub fn hold_bytes(
-    list: &[u8],
-    at: usize,
-    next: usize,
-    stopped: bool,
-    number: u8,
-    marks: &[u16],
-) -> Outcome
-    ensures { OnlyIf (in_groups (answer_bytes stopped number marks.now) ≡ stretch at next list.now) result }
+/// Holds our answer to the stored one.
+pub fn hold(stored: &[u8], stopped: bool, number: u8, marks: &[u16]) -> Outcome
+    ensures { OnlyIf (in_groups (answer_bytes stopped number marks.now) ≡ stored.now) result }
 {
-    // a number of one byte and 4,096 marks of two
-    let mut room = [0u8; 8193];
-    let end = put(&mut room, stopped, number, marks);
-    if room.len() < end {
-        return Outcome::Length(end);
+    let mut ours = Bytes::new();
+    match put(&mut ours, stopped, number, marks) {
+        Ok(()) => lists::compare(ours.as_slice(), stored),
+        Err(_) => Err(Difference::Length(LONGEST + 1)),
     }
-    let bytes = &room[0..end];
-    lists::hold(bytes, list, at, next)
 }
 
 /// Passes over the stored answer to n values.
-pub fn pass(list: &[u8], at: usize, stopped: bool, n: usize) -> Passed {
+pub fn pass(list: &[u8], at: usize, stopped: bool, n: usize) -> Result<usize, Fault> {
     if !stopped {
         return lists::pass_numbers(list, at, Item::Answer, n);
     }
-    match lists::read_answer(list, at, 21) {
-        Small::Read(answer) => {
-            if answer.value != 0 {
-                return Passed::Next(answer.next);
-            }
-            lists::pass_numbers(list, answer.next, Item::Answer, n)
-        }
-        Small::Fault(fault) => Passed::Fault(fault),
+    let answer = lists::read_answer(list, at, 21)?;
+    if answer.value != 0 {
+        return Ok(answer.next);
     }
+    lists::pass_numbers(list, answer.next, Item::Answer, n)
 }

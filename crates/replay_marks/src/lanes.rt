@@ -1,48 +1,23 @@
 // The values of a case given one by one to the engine that keeps histories in bits.
-ghost use Rattle.std.specs.Prelude.{◌≤◌, length};
-
-use histories::{Answer, Lane};
-use rules::{Limits, OWN_WIDTHS};
+use histories::Lane;
+use rules::{OWN_WIDTHS, Refusal, Terms};
 use sets::RuleSet;
 
-// The lane before the value at position i: started again where the series is cut there.
-fn before(lane: Lane, stops: &[usize], moving: bool, i: usize) -> Lane {
-    if stops::since(stops, moving, i) == i {
-        return Lane::start();
-    }
-    lane
-}
-
-/// Marks each value by a lane that is started again at each stop. 01's number: 15 where the stops are none of the series, that
-/// of the first value that is refused, or 0; where there are no values, 21 for a bad width mode, which no lane is then told.
-pub fn mark(
-    values: &[f64],
-    stops: &[usize],
-    moving: bool,
-    limits: Limits,
-    width: u64,
-    set: RuleSet,
-    marks: &mut [u16],
-) -> u8
-    requires { length values.now ≤ length marks.old }
-{
-    if stops::wrong(stops, moving, values.len()) {
-        return 15;
+/// Marks each value by a lane that is started again at each stop. Refuses stops that are none of the series (15), then as the
+/// first value that is refused, and last, where there are no values, a bad width mode (21), which no lane is then told.
+pub fn mark(values: &[f64], terms: Terms, set: RuleSet, marks: &mut [u16]) -> Result<(), Refusal> {
+    if stops::wrong(terms.stops, terms.moving, values.len()) {
+        return Err(Refusal::Stops);
     }
     let mut lane = Lane::start();
-    let mut i = 0;
-    while i < values.len() {
-        let taken = before(lane, stops, moving, i).take(values[i], limits, width, set);
-        let answer = taken.answer;
-        match answer {
-            Answer::Marks(m) => marks[i] = m,
-            Answer::Refused(why) => return why.number(),
+    for (i, (value, mark)) in values.iter().zip(marks.iter_mut()).enumerate() {
+        if stops::since(terms.stops, terms.moving, i) == i {
+            lane = Lane::start();
         }
-        lane = taken.lane;
-        i += 1;
+        *mark = lane.take(*value, terms.limits, terms.width, set)?;
     }
-    if OWN_WIDTHS < width {
-        return 21;
+    if OWN_WIDTHS < terms.width {
+        return Err(Refusal::WidthMode);
     }
-    0
+    Ok(())
 }

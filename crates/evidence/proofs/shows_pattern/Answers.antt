@@ -9,10 +9,12 @@ use lib.ListN.{length, get_or}
 use Rattle.laws.proofs.OneBit.{one_shl}
 use Rattle.sets.specs.Sets.{bit_of}
 use Rattle.sets.proofs.Sets.{bit_of-lt}
-use Rattle.rules.specs.Marking.{answer_of}
+use Rattle.numbers.proofs.Numbers.{done-number, refused-number}
+use Rattle.rules.specs.Marking.{numbered, answer_of}
+use Rattle.rules.proofs.Answers.{tells}
 use Rattle.rules.specs.Terms.{alone}
 use Rattle.evidence.proofs.Behind.{part-bounds, refused-alone, marked-alone}
-use Rattle.evidence.proofs.shows_pattern.Goals.{After-bit, After-number}
+use Rattle.evidence.proofs.shows_pattern.Goals.{After-bit, After-mark}
 use Rattle.evidence.proofs.shows_pattern.Goals as goal
 
 -- ---- the mask of the test alone, and what marking by it answers
@@ -21,13 +23,13 @@ one : (c : After-bit) → ((1 * 2 ^ c.bit.result) % 2 ^ 16) ≡ 2 ^ bit_of c.arg
 one c =
     one_shl c.bit.result 16 (omega (arith, c.bit.ensures, bit_of-lt c.args.t)) ∙ ap (λ (k : ℕ). 2 ^ k) c.bit.ensures
 
-answered : (c : After-number) → c.number.result ≡ answer_of (alone c.args.limits c.args.width) ((1 * 2 ^ c.bit.result) % 2 ^ 16) c.args.part.now 15
+answered : (c : After-mark) → numbered c.mark.result ≡ answer_of (alone c.args.limits c.args.width) ((1 * 2 ^ c.bit.result) % 2 ^ 16) c.args.part.now 15
 answered c =
-    c.number.ensures ∙ c.mark-answered.ensures.answer
+    c.mark.ensures.answer
 
-pub returns-then-number-ne0 : goal.returns-then-number-ne0
-returns-then-number-ne0 c =
-    refused-alone c.args.limits c.args.width c.args.t c.args.part.now c.requires _ (one (goal.at.returns-then-number-ne0 c).After-bit) (λ e. c.if-number-ne0.true (answered (goal.at.returns-then-number-ne0 c).After-number ∙ e))
+pub returns-then-is_err : goal.returns-then-is_err
+returns-then-is_err c =
+    refused-alone c.args.limits c.args.width c.args.t c.args.part.now c.requires _ (one (goal.at.returns-then-is_err c).After-bit) (λ e. refused-number tells c.mark.result (sym c.is_err.ensures.value ∙ c.if-is_err.true) (answered (goal.at.returns-then-is_err c).After-mark ∙ e))
 
 pub overflow_sub-result : goal.overflow_sub-result
 overflow_sub-result c =
@@ -39,8 +41,8 @@ bounds-marks-part c =
 
 pub returns : goal.returns
 returns c =
-    ap (λ (m : List ℕ). not (eqb (get_or m (length c.args.part.now - 1) 0) 0)) c.mark-answered.ensures.marks
-    ∙ marked-alone c.args.limits c.args.width c.args.t c.args.part.now c.requires _ (one (goal.at.returns c).After-bit) (sym (answered (goal.at.returns c).After-number) ∙ c.if-number-ne0.false)
+    ap (λ (m : List ℕ). not (eqb (get_or m (length c.args.part.now - 1) 0) 0)) c.mark.ensures.marks
+    ∙ marked-alone c.args.limits c.args.width c.args.t c.args.part.now c.requires _ (one (goal.at.returns c).After-bit) (sym (answered (goal.at.returns c).After-mark) ∙ done-number tells c.mark.result (sym c.is_err.ensures.value ∙ c.if-is_err.false))
 
 pub overflow_cast-set : goal.overflow_cast-set
 overflow_cast-set c =

@@ -1,4 +1,5 @@
 -- `UChart::evaluate` meets its contract: refused ahead of the arithmetic, or as the points are. Assumes nothing.
+use Rattle.std.proofs.lemmas.Result.{err_from_is_err_and}
 use Rattle.std.proofs.Common.{◌≡◌, Bool, false, length, take, sym, ap, ◌∙◌, ap₂, arith, length-take-le}
 use Rattle.laws.specs.Refusals.{first_of}
 use Rattle.laws.proofs.Bools.{told}
@@ -8,20 +9,20 @@ use Rattle.attributes.specs.Evaluating.{wrong_u, plot_u, evaluate_u}
 use Rattle.attributes.specs.Steps.{tested, ahead}
 use Rattle.attributes.proofs.Held.{held-U, counts-fit-U, Ahead, were-ahead}
 use Rattle.attributes.proofs.Outcomes.{answer-refused, slice-refused, finished}
-use Rattle.attributes.proofs.UChart.evaluate.Goals.{In-Passed}
+use Rattle.attributes.proofs.UChart.evaluate.Goals.{In_ok-check}
 use Rattle.attributes.proofs.UChart.evaluate.Goals as goal
 
 -- what the tests leave once they are passed: the record is right, and the slices have room
-passed : (c : In-Passed) → Ahead c.wrong-wrong.result c.args.self.count c.too_short-short.result
+passed : (c : In_ok-check) → Ahead c.wrong-wrong.result c.args.self.count c.too_short-short.result
 passed c =
     were-ahead c.wrong-wrong.result c.args.self.count c.too_short-short.result
-    (sym c.check.ensures ∙ ap tested c.in-Passed.is)
+    (sym c.check.ensures ∙ ap tested c.in_ok-check.was)
 
-record-right : (c : In-Passed) → let args = c.args in wrong_u args.self args.counts.now args.sizes.now ≡ false
+record-right : (c : In_ok-check) → let args = c.args in wrong_u args.self args.counts.now args.sizes.now ≡ false
 record-right c =
     told c.wrong-wrong.ensures (passed c).right
 
-room : (c : In-Passed)
+room : (c : In_ok-check)
     → let args = c.args in
     Room args.self.count (length args.values.now) (length args.ucl.now) (length args.lcl.now) (length args.out.now)
     (length args.z.now) (length args.has_z.now)
@@ -34,22 +35,25 @@ centre-cl-requires c =
 
 pub fill_sizes-requires : goal.fill_sizes-requires
 fill_sizes-requires c =
-    ((held-U _ _ _ (record-right (goal.at.fill_sizes-requires c).In-Passed)).in-sizes, (room (goal.at.fill_sizes-requires c).In-Passed).in-ucl)
+    ((held-U _ _ _ (record-right (goal.at.fill_sizes-requires c).In_ok-check)).in-sizes, (room (goal.at.fill_sizes-requires c).In_ok-check).in-ucl)
 
 pub evaluate-requires : goal.evaluate-requires
 evaluate-requires c =
-    let h = held-U _ _ _ (record-right (goal.at.evaluate-requires c).In-Passed) in
-    let r = room (goal.at.evaluate-requires c).In-Passed in
-    (h.in-counts, r.in-values, omega (arith, r.in-ucl, c.fill_sizes.auto.out), r.in-lcl, r.in-out, r.in-z, r.in-has-z, counts-fit-U _ _ _ (record-right (goal.at.evaluate-requires c).In-Passed))
+    let h = held-U _ _ _ (record-right (goal.at.evaluate-requires c).In_ok-check) in
+    let r = room (goal.at.evaluate-requires c).In_ok-check in
+    (h.in-counts, r.in-values, omega (arith, r.in-ucl, c.fill_sizes.auto.out), r.in-lcl, r.in-out, r.in-z, r.in-has-z, counts-fit-U _ _ _ (record-right (goal.at.evaluate-requires c).In_ok-check))
 
-pub returns-in-Refused : goal.returns-in-Refused
+pub returns-in_err-check : goal.returns-in_err-check
 unfolding evaluate_u
-returns-in-Refused c =
+returns-in_err-check c =
     let args = c.args in
     let n = args.self.count in
     let g = plot_u args.self args.counts.now args.sizes.now in
-    let is = c.in-Refused.is in
-    let found = c.check.ensures ∙ ap₂ (λ (w s : Bool). first_of (ahead w n s) 0) c.wrong-wrong.ensures c.too_short-short.ensures in record {
+    let is = c.in_err-check.was in
+    let found = c.check.ensures ∙ ap₂ (λ (w s : Bool). first_of (ahead w n s) 0) c.wrong-wrong.ensures c.too_short-short.ensures in
+    let p = err_from_is_err_and c.from_residual.result c.from_residual.ensures.1 in
+    rw (p.1, p.2)
+    (record {
       answer = answer-refused _ n _ g is found _;
       values = slice-refused _ n _ g is found plus_zero _ _;
       ucl = slice-refused _ n _ g is found plus_zero _ _;
@@ -57,17 +61,17 @@ returns-in-Refused c =
       out = slice-refused _ n _ g is found false _ _;
       z = slice-refused _ n _ g is found plus_zero _ _;
       has_z = slice-refused _ n _ g is found false _ _;
-    }
+    })
 
-pub returns-in-Passed : goal.returns-in-Passed
+pub returns : goal.returns
 unfolding evaluate_u plot_u
-returns-in-Passed c =
+returns c =
     let args = c.args in
     let n = args.self.count in
-    let none = sym c.check.ensures ∙ ap tested c.in-Passed.is in
+    let none = sym c.check.ensures ∙ ap tested c.in_ok-check.was in
     let is = ap₂ (λ (w s : Bool). first_of (ahead w n s) 0) c.wrong-wrong.ensures c.too_short-short.ensures in
-    let long = length-take-le n args.sizes.now (held-U _ _ _ (record-right (goal.at.returns-in-Passed c).In-Passed)).in-sizes in
-    let all = finished args.counts.now n (take n args.sizes.now) args.ucl.now long (room (goal.at.returns-in-Passed c).In-Passed).in-ucl
+    let long = length-take-le n args.sizes.now (held-U _ _ _ (record-right (goal.at.returns c).In_ok-check)).in-sizes in
+    let all = finished args.counts.now n (take n args.sizes.now) args.ucl.now long (room (goal.at.returns c).In_ok-check).in-ucl
     c.fill_sizes.ensures c.centre-cl.ensures c.centre-cl.ensures
     _ n _ args.values.now args.lcl.now args.out.now args.z.now args.has_z.now (sym is ∙ none) (c.evaluate.ensures.answer, (c.evaluate.ensures.values, (c.evaluate.ensures.ucl, (c.evaluate.ensures.lcl, (c.evaluate.ensures.out, (c.evaluate.ensures.z, c.evaluate.ensures.has_z)))))) in
     record { answer = all.0; values = all.1.0; ucl = all.1.1.0; lcl = all.1.1.1.0; out = all.1.1.1.1.0; z = all.1.1.1.1.1.0; has_z = all.1.1.1.1.1.1 }

@@ -1,16 +1,19 @@
 -- `proportions::centre` meets its contract: each centre in its turn. Assumes nothing.
-use Rattle.std.proofs.Common.{ℕ, take, ap, ◌∙◌, ap₂}
-use native.Mathlib.Nat.{sub-zero}
+use Rattle.std.proofs.Common.{sym, ap, ◌∙◌, ap₂, length-take-le}
 use lib.Ieee.{binary64, div}
 use Rattle.floats.specs.Values.{whole}
-use Rattle.attributes.specs.Evaluating.{total_of, centre_p}
+use Rattle.attributes.specs.Evaluating.{centre_p}
 use Rattle.attributes.proofs.Held.{held-P, small-counts-P, small-sizes-P, computed-centre, given-centre}
 use Rattle.attributes.proofs.Totalling.{small-part}
 use Rattle.attributes.proofs.proportions.centre.Goals as goal
 
 pub slice_bounds-total-end : goal.slice_bounds-total-end
 slice_bounds-total-end c =
-    (held-P _ _ _ c.requires).in-counts
+    sym (length-take-le _ _ (held-P _ _ _ c.requires).in-counts)
+
+pub slice_bounds-total-end-in-Computed : goal.slice_bounds-total-end-in-Computed
+slice_bounds-total-end-in-Computed c =
+    sym (length-take-le _ _ (held-P _ _ _ c.requires).in-sizes)
 
 pub total-damaged-requires : goal.total-damaged-requires
 total-damaged-requires c =
@@ -18,10 +21,6 @@ total-damaged-requires c =
     let args = c.args in
     let h = held-P _ _ _ pre in
     small-part args.c.count args.counts.now h.few h.in-counts (small-counts-P _ _ _ pre)
-
-pub slice_bounds-total-end-in-Computed : goal.slice_bounds-total-end-in-Computed
-slice_bounds-total-end-in-Computed c =
-    (held-P _ _ _ c.requires).in-sizes
 
 pub total-inspected-requires : goal.total-inspected-requires
 total-inspected-requires c =
@@ -40,6 +39,6 @@ unfolding centre_p
 returns-in-Computed c =
     let args = c.args in
     ap₂ (div binary64)
-    (c.nearest_u64_to_f64.ensures ∙ ap whole (c.total-damaged.ensures ∙ ap (λ (k : ℕ). total_of (take k args.counts.now)) (sub-zero args.c.count)))
-    (c.nearest_u64_to_f64-in-Computed.ensures ∙ ap whole (c.total-inspected.ensures ∙ ap (λ (k : ℕ). total_of (take k args.sizes.now)) (sub-zero args.c.count)))
+    (c.nearest_u64_to_f64.ensures ∙ ap whole (c.total-damaged.ensures))
+    (c.nearest_u64_to_f64-in-Computed.ensures ∙ ap whole (c.total-inspected.ensures))
     ∙ computed-centre _ _ c.in-Computed.is

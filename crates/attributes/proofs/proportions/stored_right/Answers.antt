@@ -1,14 +1,10 @@
 -- `proportions::stored_right` meets its contract: what was seen and the rest together say what the whole says. Assumes nothing.
 use Rattle.std.proofs.Common.{sym, ◌∙◌}
 use lib.Dec.{leb-suc-suc}
-use Rattle.laws.proofs.Judged.{judged-starts, judged-all}
+use Rattle.laws.proofs.Judged.{judged-all}
 use Rattle.attributes.specs.Evaluating.{stored_right_p}
 use Rattle.attributes.proofs.Samples.{judged-bits}
 use Rattle.attributes.proofs.proportions.stored_right.Goals as goal
-
-pub loop-i-init : goal.loop-i-init
-loop-i-init c =
-    judged-starts _ _
 
 pub loop-i-preserved : goal.loop-i-preserved
 loop-i-preserved c =

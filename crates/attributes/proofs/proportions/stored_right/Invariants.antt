@@ -1,5 +1,5 @@
 -- `proportions::stored_right` meets its contract: what was seen and the rest together say what the whole says. Assumes nothing.
-use Rattle.std.proofs.Common.{◌-◌, ◌^◌, ltb, get_or}
+use Rattle.std.proofs.Common.{◌^◌, ltb, get_or}
 use Rattle.laws.proofs.Judged.{Judged}
 use Rattle.attributes.specs.Records.{sample_p}
 use Rattle.attributes.specs.Evaluating.{right}
@@ -8,7 +8,3 @@ use Rattle.attributes.proofs.proportions.stored_right.Given as goal
 abbrev pub invariant-loop-i : goal.invariant-loop-i
 invariant-loop-i l =
     Judged (λ k. right (sample_p (get_or l.counts k 0) (get_or l.sizes k 0))) l.count l.i (ltb l.bits (2 ^ 32))
-
-abbrev pub decreases-loop-i : goal.decreases-loop-i
-decreases-loop-i l =
-    l.count - l.i

@@ -1,11 +1,7 @@
 -- `rates::stored_right` meets its contract: what was seen and the rest together say what the whole says. Assumes nothing.
-use Rattle.laws.proofs.Judged.{judged-starts, judged-next, judged-all}
+use Rattle.laws.proofs.Judged.{judged-next, judged-all}
 use Rattle.attributes.specs.Evaluating.{stored_right_u}
 use Rattle.attributes.proofs.rates.stored_right.Goals as goal
-
-pub loop-i-init : goal.loop-i-init
-loop-i-init c =
-    judged-starts _ _
 
 pub loop-i-preserved : goal.loop-i-preserved
 loop-i-preserved c =

@@ -1,5 +1,5 @@
 -- `rates::stored_right` meets its contract: what was seen and the rest together say what the whole says. Assumes nothing.
-use Rattle.std.proofs.Common.{◌-◌, get_or}
+use Rattle.std.proofs.Common.{get_or}
 use lib.Ieee.{nan}
 use Rattle.laws.proofs.Judged.{Judged}
 use Rattle.attributes.specs.Records.{sample_u}
@@ -9,7 +9,3 @@ use Rattle.attributes.proofs.rates.stored_right.Given as goal
 abbrev pub invariant-loop-i : goal.invariant-loop-i
 invariant-loop-i l =
     Judged (λ k. right (sample_u (get_or l.counts k 0) (get_or l.sizes k nan))) l.count l.i l.all
-
-abbrev pub decreases-loop-i : goal.decreases-loop-i
-decreases-loop-i l =
-    l.count - l.i

@@ -15,38 +15,36 @@ use Rattle.histories.proofs.Lane.take.Goals as goal
 pub returns-then-set-gt-ALL : goal.returns-then-set-gt-ALL
 returns-then-set-gt-ALL c =
     let a = c.args in
-    c.refuse.ensures ∙ sym (set-refused a.limits a.width a.set.mask a.self a.value c.if-set-gt-ALL.true)
+    sym (set-refused a.limits a.width a.set.mask a.self.now a.value c.if-set-gt-ALL.true)
 
 pub returns-then-width-gt-OWN_WIDTHS : goal.returns-then-width-gt-OWN_WIDTHS
 returns-then-width-gt-OWN_WIDTHS c =
     let a = c.args in
-    c.refuse-then-width-gt-OWN_WIDTHS.ensures ∙ sym (mode-refused a.limits a.width a.set.mask a.self a.value (omega arith) c.if-width-gt-OWN_WIDTHS.true)
+    sym (mode-refused a.limits a.width a.set.mask a.self.now a.value (omega arith) c.if-width-gt-OWN_WIDTHS.true)
 
-pub returns-then-not-sound : goal.returns-then-not-sound
-returns-then-not-sound c =
+pub returns-then-not-finite_limits : goal.returns-then-not-finite_limits
+returns-then-not-finite_limits c =
     let a = c.args in
-    let unsound : finite_limits a.limits ≡ false = sym c.finite_limits-sound.ensures ∙ c.if-not-sound.true in
-    c.refuse-then-not-sound.ensures
-    ∙ sym (limits-refused a.limits a.width a.set.mask a.self a.value (omega arith) (omega arith) unsound)
+    let unsound : finite_limits a.limits ≡ false = sym c.finite_limits.ensures ∙ c.if-not-finite_limits.true in
+    sym (limits-refused a.limits a.width a.set.mask a.self.now a.value (omega arith) (omega arith) unsound)
 
 pub returns-then-not-is_finite : goal.returns-then-not-is_finite
 returns-then-not-is_finite c =
     let a = c.args in
-    let sound : finite_limits a.limits ≡ true = sym c.finite_limits-sound.ensures ∙ c.if-not-sound.false in
+    let sound : finite_limits a.limits ≡ true = sym c.finite_limits.ensures ∙ c.if-not-finite_limits.false in
     let unsound : finite a.value ≡ false = sym c.is_finite.ensures ∙ c.if-not-is_finite.true in
-    c.refuse-then-not-is_finite.ensures
-    ∙ sym (value-refused a.limits a.width a.set.mask a.self a.value (omega arith) (omega arith) sound unsound)
+    sym (value-refused a.limits a.width a.set.mask a.self.now a.value (omega arith) (omega arith) sound unsound)
 
-pub marks-marks-requires : goal.marks-marks-requires
+pub marks-requires : goal.marks-requires
 unfolding after
-marks-marks-requires c =
-    rw c.after-lane.ensures (min-le_right _ 15)
+marks-requires c =
+    rw c.after.ensures (min-le_right _ 15)
 
 pub returns : goal.returns
 returns c =
     let a = c.args in
-    let sound : finite_limits a.limits ≡ true = sym c.finite_limits-sound.ensures ∙ c.if-not-sound.false in
+    let sound : finite_limits a.limits ≡ true = sym c.finite_limits.ensures ∙ c.if-not-finite_limits.false in
     let is : finite a.value ≡ true = sym c.is_finite.ensures ∙ c.if-not-is_finite.false in
-    ap (λ (m : ℕ). (0, m, c.after-lane.result)) c.marks-marks.ensures
-    ∙ ap (marked a.set.mask) (c.after-lane.ensures ∙ ap (λ (l : Lines). after l a.self a.value) c.lines_of.ensures)
-    ∙ sym (value_taken a.limits a.width a.set.mask a.self a.value (omega arith) (omega arith) sound is)
+    ap (λ (m : ℕ). (0, m, c.after.result)) c.marks.ensures
+    ∙ ap (marked a.set.mask) (c.after.ensures ∙ ap (λ (l : Lines). after l a.self.now a.value) c.lines_of.ensures)
+    ∙ sym (value_taken a.limits a.width a.set.mask a.self.now a.value (omega arith) (omega arith) sound is)

@@ -1,12 +1,19 @@
 -- `answer::put_figure` meets its contract. Assumes nothing.
-use borrow.Author.Tests.{eq-eqb, ne_eqb}
-use Rattle.lists.proofs.Putting.{put_then}
+use mathlib.Core.Path.{ap, ◌∙◌}
+use mathlib.Core.List.{[], ◌∷◌, ◌++◌}
+use Rattle.std.proofs.lemmas.Result.{on_ok_weaker}
+use Rattle.groups.specs.Groups.{groups}
+use Rattle.lists.proofs.InGroups.{put_one, put_then}
 use Rattle.replay_charts.proofs.answer.put_figure.Goals as goal
 
-pub returns-then-ours-ne0 : goal.returns-then-ours-ne0
-returns-then-ours-ne0 c =
-    rw (ne_eqb _ _ c.if-ours-ne0.true) c.put_number-a.ensures
+pub returns-in_ok-put-in-Ok : goal.returns-in_ok-put-in-Ok
+returns-in_ok-put-in-Ok c =
+    let old = c.args.ours.now in
+    rw (c.in-Ok.is, ← c.bits.ensures)
+    (on_ok_weaker c.put-in-Ok.result (λ e. put_then old (0 ∷ []) (c.bits.result ∷ []) (put_one old 0 c.in_ok-put-in-Ok.ensures) (put_one _ _ e)) c.put-in-Ok.ensures)
 
-pub returns : goal.returns
-returns c =
-    rw (eq-eqb _ _ c.if-ours-ne0.false, ← c.bits.ensures) (put_then c.put_number-a.ensures c.put_number.ensures)
+pub returns-in-Err : goal.returns-in-Err
+returns-in-Err c =
+    let old = c.args.ours.now in
+    rw c.in-Err.is
+    (on_ok_weaker c.put-in-Err.result (λ e. put_one old _ (e ∙ ap (λ n. old ++ groups n) (c.from.ensures ∙ c.number.ensures))) c.put-in-Err.ensures)

@@ -1,11 +1,18 @@
 -- `answer::put` meets its contract. Assumes nothing.
-use Rattle.lists.proofs.Putting.{put_then}
+use mathlib.Core.Path.{ap, ◌∙◌}
+use mathlib.Core.List.{[], ◌∷◌, ◌++◌}
+use Rattle.std.proofs.lemmas.Result.{on_ok_weaker}
+use Rattle.groups.specs.Groups.{groups}
+use Rattle.lists.proofs.InGroups.{put_one, put_plain, put_then}
 use Rattle.replay_marks.proofs.answer.put.Goals as goal
 
-pub returns-then-stopped : goal.returns-then-stopped
-returns-then-stopped c =
-    rw c.if-stopped.true (put_then c.put_number-at.ensures c.put_marks.ensures)
+pub returns-then-not-stopped : goal.returns-then-not-stopped
+returns-then-not-stopped c =
+    rw c.if-not-stopped.true (on_ok_weaker c.put_row.result (put_plain c.args.ours.now c.args.marks.now) c.put_row.ensures)
 
 pub returns : goal.returns
 returns c =
-    rw c.if-stopped.false c.put_marks-2.ensures
+    let a = c.args in
+    let number = put_one a.ours.now a.number (c.in_ok-put.ensures ∙ ap (λ n. a.ours.now ++ groups n) c.from.ensures) in
+    rw c.if-not-stopped.false
+    (on_ok_weaker c.put_row-2.result (λ e. put_then a.ours.now (a.number ∷ []) a.marks.now number (put_plain _ a.marks.now e)) c.put_row-2.ensures)

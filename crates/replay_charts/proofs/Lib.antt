@@ -1,2 +1,0 @@
--- The laws of holding a chart to what is stored.
-mod Held
