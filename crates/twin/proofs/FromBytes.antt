@@ -5,44 +5,40 @@ use Prim.Native.Nat.{ℕ, zero, suc, ◌+◌, ◌*◌, ◌/◌, ◌%◌, ◌≤�
 use native.Mathlib.Nat.{le_of_suc-le-suc}
 use native.Mathlib.Omega.{arith}
 use lib.ListN.{length, take, drop, get_or, length-drop}
-use lib.Seq.{get_or-drop}
+use Rattle.std.specs.Int.{w64, from_le_bytes}
+use Rattle.std.specs.Simd.{first_chunks}
+use Rattle.std.proofs.lemmas.List.{drop-drop}
 use Rattle.laws.proofs.Lists.{length-tabulate}
 use Rattle.twin.specs.Bytes.{word_of, float_at, floats_of, bytes_of}
-use Rattle.twin.specs.Steps.{four_at}
 
 -- ---- eight bytes
 
--- eight bytes at the front, by pairs
-front : (ds : List ℕ) → 8 ≤ length ds → word_of (take 8 ds) ≡ four_at ds 0 + 4294967296 * four_at ds 4
+-- eight bytes at the front, as the library reads them
+pub little : (ds : List ℕ) → 8 ≤ length ds → from_le_bytes w64 (take 8 ds) ≡ word_of (take 8 ds)
 unfolding word_of
-front (a ∷ b ∷ c ∷ d ∷ e ∷ f ∷ g ∷ h ∷ ds) l = omega arith
-front (a ∷ b ∷ c ∷ d ∷ e ∷ f ∷ g ∷ []) l = absurd (omega arith)
-front (a ∷ b ∷ c ∷ d ∷ e ∷ f ∷ []) l = absurd (omega arith)
-front (a ∷ b ∷ c ∷ d ∷ e ∷ []) l = absurd (omega arith)
-front (a ∷ b ∷ c ∷ d ∷ []) l = absurd (omega arith)
-front (a ∷ b ∷ c ∷ []) l = absurd (omega arith)
-front (a ∷ b ∷ []) l = absurd (omega arith)
-front (a ∷ []) l = absurd (omega arith)
-front [] l = absurd (omega arith)
+little (a ∷ b ∷ c ∷ d ∷ e ∷ f ∷ g ∷ h ∷ ds) l = omega arith
+little (a ∷ b ∷ c ∷ d ∷ e ∷ f ∷ g ∷ []) l = absurd (omega arith)
+little (a ∷ b ∷ c ∷ d ∷ e ∷ f ∷ []) l = absurd (omega arith)
+little (a ∷ b ∷ c ∷ d ∷ e ∷ []) l = absurd (omega arith)
+little (a ∷ b ∷ c ∷ d ∷ []) l = absurd (omega arith)
+little (a ∷ b ∷ c ∷ []) l = absurd (omega arith)
+little (a ∷ b ∷ []) l = absurd (omega arith)
+little (a ∷ []) l = absurd (omega arith)
+little [] l = absurd (omega arith)
 
-at-is : (bs : List ℕ) (at i j : ℕ) → at + i ≡ j → get_or (drop at bs) i 0 ≡ get_or bs j 0
-at-is bs at i j e = get_or-drop at bs i 0 ∙ ap (λ (k : ℕ). get_or bs k 0) e
+-- the chunk with the number i
+chunk : (k : ℕ) (bs : List ℕ) (i : ℕ) → i < k → get_or (first_chunks 8 k bs) i [] ≡ take 8 (drop (8 * i) bs)
+chunk zero bs i h = absurd (omega arith)
+chunk (suc k) bs zero h = refl
+chunk (suc k) bs (suc i) h =
+    let on : 8 + 8 * i ≡ 8 * suc i = omega arith in
+    chunk k (drop 8 bs) i (le_of_suc-le-suc h) ∙ ap (take 8) (drop-drop (8 * i) 8 bs ∙ ap (λ (n : ℕ). drop n bs) on)
 
-pub eight_is : (bs : List ℕ) (at : ℕ) → at + 8 ≤ length bs → four_at bs at + 4294967296 * four_at bs (at + 4) ≡ word_of (take 8 (drop at bs))
-eight_is bs at h =
-    let l : 8 ≤ length (drop at bs) = omega (arith, length-drop at bs) in
-    omega (
-      arith,
-      front (drop at bs) l,
-      at-is bs at 0 at (omega arith),
-      at-is bs at 1 (at + 1) (omega arith),
-      at-is bs at 2 (at + 2) (omega arith),
-      at-is bs at 3 (at + 2 + 1) (omega arith),
-      at-is bs at 4 (at + 4) (omega arith),
-      at-is bs at 5 (at + 4 + 1) (omega arith),
-      at-is bs at 6 (at + 4 + 2) (omega arith),
-      at-is bs at 7 (at + 4 + 2 + 1) (omega arith),
-    )
+-- and the number that it means
+pub chunk_word : (bs : List ℕ) (i : ℕ) → i < length bs / 8
+    → from_le_bytes w64 (get_or (first_chunks 8 (length bs / 8) bs) i []) ≡ word_of (take 8 (drop (8 * i) bs))
+chunk_word bs i h =
+    ap (from_le_bytes w64) (chunk (length bs / 8) bs i h) ∙ little (drop (8 * i) bs) (omega (arith, length-drop (8 * i) bs))
 
 -- ---- values
 

@@ -2,9 +2,15 @@
 use Prim.Native.Nat.{ℕ, ◌/◌, ◌%◌, ◌^◌, ◌<◌}
 use native.Mathlib.Omega.{arith}
 use mathlib.Core.Path.{◌≡◌}
-use Rattle.sheets.specs.Answers.{Verdict}
-use Rattle.sheets.proofs.Places.{Bounded, alone, form, wrong, Short, number-only, bytes}
-use Rattle.twin.specs.Answers.{packed, packed_length}
+use mathlib.Core.Bool.{Bool, true, false, cond}
+use mathlib.Core.List.{List}
+use lib.ListN.{length}
+use Rattle.laws.specs.Refusals.{first_of}
+use Rattle.rules.specs.Terms.{Terms}
+use Rattle.sheets.specs.Answers.{Verdict, plain, check_of, write_of}
+use Rattle.sheets.proofs.Places.{Bounded, alone, form, wrong, Short, number-only, bytes, check-bounded, write-short}
+use Rattle.twin.specs.Bytes.{floats_of, not_eights}
+use Rattle.twin.specs.Answers.{packed, check_number, packed_length, write_number}
 
 pub packed-fits : {v : Verdict} → Bounded v → packed v < 2 ^ 64
 packed-fits (alone h other) = omega arith
@@ -14,6 +20,23 @@ packed-fits (wrong i right stated) = omega arith
 pub length-fits : {a : ℕ × ℕ} → Short a → packed_length a < 2 ^ 64
 length-fits (number-only h) = omega arith
 length-fits (bytes h) = omega arith
+
+-- so that of each call has room
+pub check-fits : (terms : Terms) (set : ℕ) (bs sheet : List ℕ) → check_number terms set bs sheet < 2 ^ 64
+unfolding check_number first_of
+check-fits terms set bs sheet = by (not_eights bs)
+  where
+    by : (b : Bool) → packed (cond b (plain 2) (check_of terms set (floats_of bs) sheet)) < 2 ^ 64
+    by true = omega arith
+    by false = packed-fits (check-bounded terms set (floats_of bs) sheet)
+
+pub write-fits : (terms : Terms) (set : ℕ) (bs room : List ℕ) → write_number terms set bs room < 2 ^ 64
+unfolding write_number first_of
+write-fits terms set bs room = by (not_eights bs)
+  where
+    by : (b : Bool) → packed_length (cond b (2, 0) (write_of terms set (floats_of bs) (length room))) < 2 ^ 64
+    by true = omega arith
+    by false = length-fits (write-short terms set (floats_of bs) (length room))
 
 -- what a caller reads off the word of a verdict: the number; at 9 the place; at 11 the position, the right marks, the stated marks
 pub record Read (v : Verdict) (w : ℕ) : Type 0 where

@@ -1,8 +1,9 @@
 -- The C functions' answers from what is refused before a value is read, and from the library's answers on the values. Assumes nothing.
-use mathlib.Core.Path.{◌≡◌, refl, sym, ap, ◌∙◌}
+use mathlib.Core.Path.{◌≡◌, refl, sym, ap, ap₂, ◌∙◌}
 use mathlib.Core.Bool.{Bool, true, false}
 use mathlib.Core.List.{List, [], ◌∷◌}
 use Prim.Native.Nat.{ℕ, suc, ◌/◌, ◌≤◌, ◌<◌}
+use Rattle.std.specs.Prelude.{Result, Ok, Err, ⊤}
 use native.Mathlib.Omega.{arith}
 use lib.Dec.{ltb}
 use lib.Ieee.{Float}
@@ -17,12 +18,37 @@ use Rattle.rules.specs.declared.Limits.{Limits}
 use Rattle.rules.specs.Terms.{Terms, unstopped}
 use Rattle.rules.specs.Marking.{most, ahead, refusal, answer_of, marks_of}
 use Rattle.rules.proofs.Accepted.{answer-refused, answer-short, answer-done}
-use Rattle.sheets.specs.Answers.{plain, check_of, write_of, room_after}
+use Rattle.rules.proofs.Answers.{number-above as series-above}
+use Rattle.sheets.specs.Answers.{Verdict, plain, check_of, write_of, room_after}
 use Rattle.sheets.proofs.Judging.{check-refused, write-refused, room-refused}
 use Rattle.twin.specs.Bytes.{floats_of, not_eights, bytes_of}
 use Rattle.twin.specs.Answers.{mark_number, bytes_after, mark_room, packed, check_number, packed_length, write_number, write_room}
-use Rattle.twin.specs.Steps.{early, values_after}
+use Rattle.twin.specs.declared.Refusal.{Refusal}
+use Rattle.twin.specs.declared.Refusal.TheVariants.{Ragged, Series}
+use Rattle.twin.specs.Steps.{number, numbered, as_fault, told_by, early, values_after}
 use Rattle.twin.proofs.FromBytes.{length-floats}
+
+-- a refusal's number is not 0
+number-above : (why : Refusal) → 0 < number why
+number-above Ragged = omega arith
+number-above (Series why) = series-above why
+
+not_done : (why : Refusal) → number why ≡ 0 → ⊥
+not_done why e = omega (arith, number-above why, e)
+
+-- its word, as a fault: the number alone
+fault-number : (why : Refusal) → packed (told_by (as_fault why)) ≡ number why
+fault-number Ragged = refl
+fault-number (Series why) = omega arith
+
+-- ---- what reading answered
+
+module _ (bs : List ℕ) (set : ℕ) (r : Result ⊤ Refusal) (told : numbered r ≡ early bs set) where
+  pub starts : r ≡ Ok tt → early bs set ≡ 0
+  starts is = sym told ∙ ap numbered is
+
+  pub stopped : (why : Refusal) → r ≡ Err why → number why ≡ early bs set
+  stopped why is = sym (ap numbered is) ∙ told
 
 -- what is not refused before a value is read
 pub record Begun (bs : List ℕ) (set : ℕ) : Type 0 where
@@ -39,12 +65,12 @@ begun bs set e =
     record { eights = a.0; few = ltb-false most (length bs / 8) b.0; small = ltb-false 511 set d.0 }
 
 -- the values stand at the front
-pub values-front : (bs : List ℕ) (set : ℕ) → early bs set ≡ 0 → (old vs : List Float) (n : ℕ) → n ≡ length bs / 8
-    → vs ≡ values_after bs set old → take n vs ≡ floats_of bs
+pub values-front : (bs : List ℕ) (set : ℕ) → early bs set ≡ 0 → (old vs : List Float)
+    → vs ≡ values_after bs set old → take (length bs / 8) vs ≡ floats_of bs
 unfolding values_after
-values-front bs set e old vs n count is =
-    ap (take n) (is ∙ simp (eq-eqb (early bs set) 0 e))
-    ∙ take_at (floats_of bs) (drop (length (floats_of bs)) old) n (length-floats bs ∙ sym count)
+values-front bs set e old vs is =
+    ap (take (length bs / 8)) (is ∙ simp (eq-eqb (early bs set) 0 e))
+    ∙ take_at (floats_of bs) (drop (length (floats_of bs)) old) (length bs / 8) (length-floats bs)
 
 -- ---- marking a series into bytes
 
@@ -115,7 +141,13 @@ module _ (limits : Limits) (set : ℕ) (bs : List ℕ) where
   some : (k : ℕ) → refusal terms set values ≡ suc k → refusal terms set values ≡ 0 → ⊥
   some k h e = omega (arith, h, e)
 
-  module _ (r : ℕ) (is : r ≡ early bs set) (nz : r ≡ 0 → ⊥) where
+  module _ (why : Refusal) (is : number why ≡ early bs set) where
+    abbrev r : ℕ
+    r = number why
+
+    nz : r ≡ 0 → ⊥
+    nz = not_done why
+
     pub mark-stops : (room : List ℕ) → (r ≡ mark_number terms set bs room) × (room ≡ mark_room terms set bs room)
     unfolding mark_number mark_room
     mark-stops room = (
@@ -125,23 +157,22 @@ module _ (limits : Limits) (set : ℕ) (bs : List ℕ) where
           (λ k h. (bytes-refused terms set values (refusal terms set values) room refl (some k h)).1) is,
     )
 
-    pub check-stops : (sheet : List ℕ) → r ≡ check_number terms set bs sheet
+    pub check-stops : (sheet : List ℕ) → packed (told_by (as_fault why)) ≡ check_number terms set bs sheet
     unfolding check_number
     check-stops sheet =
         let word : r ≡ packed (plain r) = omega arith in
-        word
+        fault-number why
+        ∙ word
         ∙ ap packed (stops plain (check_of terms set values sheet) r nz
         (λ k h. ap plain (sym h) ∙ check-refused terms set values (some k h) sheet) is)
 
-    pub write-stops : (room : List ℕ) → (r ≡ write_number terms set bs room) × (room ≡ write_room terms set bs room)
+    pub write-stops : (room : List ℕ) → (packed_length (r, 0) ≡ write_number terms set bs room) × (room ≡ write_room terms set bs room)
     unfolding write_number write_room
-    write-stops room =
-        let word : r ≡ packed_length (r, 0) = omega arith in (
-          word
-              ∙ ap packed_length (stops (λ n. (n, 0)) (write_of terms set values (length room)) r nz
-              (λ k h. ap (λ (n : ℕ). (n, 0)) (sym h) ∙ write-refused terms set values (some k h) (length room)) is),
-          stops (λ n. room) (room_after terms set values room) r nz (λ k h. room-refused terms set values (some k h) room) is,
-        )
+    write-stops room = (
+      ap packed_length (stops (λ n. (n, 0)) (write_of terms set values (length room)) r nz
+          (λ k h. ap (λ (n : ℕ). (n, 0)) (sym h) ∙ write-refused terms set values (some k h) (length room)) is),
+      stops (λ n. room) (room_after terms set values room) r nz (λ k h. room-refused terms set values (some k h) room) is,
+    )
 
   module _ (started : early bs set ≡ 0) where
     pub mark-goes : (room : List ℕ) → (answer_of terms set values (length room / 2) ≡ mark_number terms set bs room)
@@ -163,3 +194,20 @@ module _ (limits : Limits) (set : ℕ) (bs : List ℕ) where
       ap packed_length (goes_on (2, 0) (write_of terms set values (length room)) started),
       goes_on room (room_after terms set values room) started,
     )
+
+    -- of the values that were read, under terms that are these
+    module _ (old vs : List Float) (read : vs ≡ values_after bs set old) (under : Terms) (are : under ≡ terms) where
+      pub check-whole : (sheet : List ℕ) {v : Verdict} → v ≡ check_of under set (take (length bs / 8) vs) sheet → packed v ≡ check_number terms set bs sheet
+      check-whole sheet e =
+          ap packed (e ∙ ap₂ (λ (t : Terms) (xs : List Float). check_of t set xs sheet) are (values-front bs set started old vs read))
+          ∙ check-goes sheet
+
+      pub write-whole : (room : List ℕ) {a : ℕ × ℕ} {now : List ℕ}
+          → a ≡ write_of under set (take (length bs / 8) vs) (length room) → now ≡ room_after under set (take (length bs / 8) vs) room
+          → (packed_length a ≡ write_number terms set bs room) × (now ≡ write_room terms set bs room)
+      write-whole room e left =
+          let xs = values-front bs set started old vs read in
+          let goes = write_goes room in (
+            ap packed_length (e ∙ ap₂ (λ (t : Terms) (xs : List Float). write_of t set xs (length room)) are xs) ∙ goes.0,
+            left ∙ ap₂ (λ (t : Terms) (xs : List Float). room_after t set xs room) are xs ∙ goes.1,
+          )

@@ -2,100 +2,109 @@
 // point, low byte first. Each answer but that of the root, which is an f64, has document 01's number in bits 0 to 7.
 #![tactic(auto)]
 
-ghost use Rattle.std.specs.Prelude.{◌≡◌, ◌+◌, ◌*◌, ◌/◌, ◌%◌, ◌^◌, ◌≤◌, ◌<◌, length, take, drop};
+ghost use Rattle.std.specs.Prelude.{◌≡◌, ◌*◌, ◌/◌, ◌^◌, ◌≤◌, ◌<◌, length};
 ghost use Rattle.laws.specs.Front.{at_front};
-ghost use Rattle.rules.specs.Terms.{unstopped};
-ghost use Rattle.rules.specs.Marking.{most, answer_of};
-ghost use Rattle.sheets.specs.Answers.{checked, written};
-ghost use Rattle.twin.specs.Bytes.{word_of, floats_of, bytes_of};
-ghost use Rattle.twin.specs.Answers.{terms_of, mark_number, bytes_after, mark_room, packed, check_number};
+ghost use Rattle.rules.specs.Terms.{told, unstopped};
+ghost use Rattle.rules.specs.Marking.{most};
+ghost use Rattle.sheets.specs.Answers.{faulted};
+ghost use Rattle.twin.specs.Bytes.{floats_of, bytes_of};
+ghost use Rattle.twin.specs.Answers.{terms_of, mark_number, mark_room, packed, check_number};
 ghost use Rattle.twin.specs.Answers.{packed_length, write_number, write_room, root_number};
-ghost use Rattle.twin.specs.Steps.{pair_at, four_at, early, values_after};
+ghost use Rattle.twin.specs.Steps.{number, numbered, as_fault, checked, written, early, values_after};
+ghost use Rattle.twin.specs.declared.Refusal.TheVariants.{Series};
+ghost use Rattle.twin.specs.declared.Fault.TheVariants.{Sheet};
 
-use root::Rooted;
-use rules::{Limits, MOST, SAME_WIDTHS};
+use numbers::Numbered;
+use rules::{Limits, MOST, SAME_WIDTHS, Terms};
 use sets::RuleSet;
-use sheets::{Checked, Written};
+
+// Why a series in bytes is not marked, and no sheet of it is written.
+#[derive(Clone, Copy)]
+enum Refusal {
+    // The bytes are not eight to a value (2).
+    Ragged,
+    // The series is refused (5, 4, 3, or 6 for the room).
+    Series(rules::Refusal),
+}
+
+impl Numbered for Refusal {
+    ghost number = { number };
+
+    fn number(&self) -> u8 {
+        match self {
+            Refusal::Ragged => 2,
+            Refusal::Series(why) => why.number(),
+        }
+    }
+}
+
+impl From<rules::Refusal> for Refusal {
+    ghost from_gives = { λ why refusal. refusal ≡ Series why };
+
+    fn from(why: rules::Refusal) -> Refusal {
+        Refusal::Series(why)
+    }
+}
+
+// Why a sheet is not accepted for a series in bytes.
+#[derive(Clone, Copy)]
+enum Fault {
+    // The bytes of the series are not eight to a value (2).
+    Ragged,
+    // The series is refused, or the sheet (9, 10, 11).
+    Sheet(sheets::Fault),
+}
+
+impl From<Refusal> for Fault {
+    ghost from_gives = { λ why fault. fault ≡ as_fault why };
+
+    fn from(why: Refusal) -> Fault {
+        match why {
+            Refusal::Ragged => Fault::Ragged,
+            Refusal::Series(why) => Fault::Sheet(sheets::Fault::Refused(why)),
+        }
+    }
+}
+
+impl From<sheets::Fault> for Fault {
+    ghost from_gives = { λ found fault. fault ≡ Sheet found };
+
+    fn from(found: sheets::Fault) -> Fault {
+        Fault::Sheet(found)
+    }
+}
 
 // Rooms for so few values are cleared faster than those for 4,096.
 const FEW: usize = 128;
-
-fn wide(b: u8) -> u64
-    ensures { (result ≡ b) × (result < 256) }
-{
-    b as u64
-}
-
-fn wide_marks(m: u16) -> u64
-    ensures { result ≡ m }
-{
-    m as u64
-}
-
-fn pair(b: &[u8], at: usize) -> u64
-    requires { at + 2 ≤ length b.now }
-    ensures { (result ≡ pair_at b.now at) × (result < 65536) }
-{
-    wide(b[at]) + 256 * wide(b[at + 1])
-}
-
-fn four(b: &[u8], at: usize) -> u64
-    requires { at + 4 ≤ length b.now }
-    ensures { (result ≡ four_at b.now at) × (result < 4294967296) }
-{
-    pair(b, at) + 65536 * pair(b, at + 2)
-}
-
-// Eight bytes as a number, low byte first. The tree of sums is balanced, so that the compiler makes it one load.
-fn word(b: &[u8], at: usize) -> u64
-    requires { at + 8 ≤ length b.now }
-    ensures { result ≡ word_of (take 8 (drop at b.now)) }
-{
-    four(b, at) + 4294967296 * four(b, at + 4)
-}
 
 // The values that the bytes mean, at the front of `out`.
 fn read_floats(b: &[u8], out: &mut [f64])
     requires { length b.now / 8 ≤ length out.old }
     ensures { out.new ≡ at_front (floats_of b.now) out.old }
 {
-    let n = b.len() / 8;
-    let mut i: usize = 0;
-    while i < n {
-        out[i] = floats::of_bits(word(b, 8 * i));
-        i += 1;
+    let (words, _) = b.as_chunks::<8>();
+    for (i, word) in words.iter().enumerate() {
+        out[i] = floats::of_bits(u64::from_le_bytes(*word));
     }
 }
 
-// How each call begins: the values at the front of `vs` and 0, or the number of what is refused before one of them is read.
-fn read_values(b: &[u8], set: u32, vs: &mut [f64]) -> u64
+// How each call begins: the values at the front of `vs`, or what is refused before one of them is read.
+fn read_values(b: &[u8], set: u32, vs: &mut [f64]) -> Result<(), Refusal>
     requires { length b.now / 8 ≤ most → length b.now / 8 ≤ length vs.old }
-    ensures value { result ≡ early b.now set }
-    ensures vs_after { vs.new ≡ values_after b.now set vs.old }
+    ensures answer { numbered result ≡ early b.now set }
+    ensures room { vs.new ≡ values_after b.now set vs.old }
 {
     if b.len() % 8 != 0 {
-        return 2;
+        return Err(Refusal::Ragged);
     }
     if MOST < b.len() / 8 {
-        return 5;
+        return Err(Refusal::Series(rules::Refusal::TooMany));
     }
-    if (RuleSet::ALL as u32) < set {
-        return 4;
+    if u32::from(RuleSet::ALL) < set {
+        return Err(Refusal::Series(rules::Refusal::SetTooLarge));
     }
     read_floats(b, vs);
-    0
-}
-
-fn low(m: u16) -> u8
-    ensures { result ≡ m % 256 }
-{
-    (m % 256) as u8
-}
-
-fn high(m: u16) -> u8
-    ensures { result ≡ m / 256 }
-{
-    (m / 256) as u8
+    Ok(())
 }
 
 // The bytes of the marks, at the front of `out`.
@@ -103,129 +112,121 @@ fn put_marks(ms: &[u16], out: &mut [u8])
     requires { 2 * length ms.now ≤ length out.old }
     ensures { out.new ≡ at_front (bytes_of ms.now) out.old }
 {
-    let mut i: usize = 0;
-    while i < ms.len() {
-        let m = ms[i];
-        out[2 * i] = low(m);
-        out[2 * i + 1] = high(m);
-        i += 1;
+    for (i, m) in ms.iter().enumerate() {
+        let pair = m.to_le_bytes();
+        out[2 * i] = pair[0];
+        out[2 * i + 1] = pair[1];
     }
 }
 
-// Marks a series into bytes. `ms` has room for the marks of every point unless these are too many, so that 6 is left to say here.
-fn mark_values(
-    values: &[f64],
-    limits: Limits,
-    set: RuleSet,
-    ms: &mut [u16],
-    marks: &mut [u8],
-) -> u64
-    requires { length values.now ≤ most → length values.now ≤ length ms.old }
-    ensures value { result ≡ answer_of (unstopped limits) set.mask values.now (length marks.old / 2) }
-    ensures marks_after { marks.new ≡ bytes_after (unstopped limits) set.mask values.now marks.old }
+// The word of a fault of a sheet, which has room for every place and every position that the checker gives (proofs/Packing.antt).
+fn pack_fault(fault: sheets::Fault) -> u64
+    requires { packed (faulted fault) < 2 ^ 64 }
+    ensures { result ≡ packed (faulted fault) }
 {
-    let n = values.len();
-    let marked = rules::mark(values, &[], false, limits, SAME_WIDTHS, set, ms).number();
-    if marked != 0 {
-        return wide(marked);
-    }
-    if marks.len() / 2 < n {
-        return 6;
-    }
-    put_marks(&ms[0..n], marks);
-    0
-}
-
-// A verdict in one word, which has room for every place and every position that the checker gives (proofs/Packing.antt).
-fn pack(c: Checked) -> u64
-    requires { packed (checked c) < 2 ^ 64 }
-    ensures { result ≡ packed (checked c) }
-{
-    match c {
-        Checked::Accepted => 0,
-        Checked::Refused(why) => wide(why.number()),
-        Checked::Form { at } => 9 + 256 * (at as u64),
-        Checked::Differs => 10,
-        Checked::Wrong { at, right, stated } => 11
+    match fault {
+        sheets::Fault::Refused(why) => u64::from(why.number()),
+        sheets::Fault::Form { at } => 9 + 256 * (at as u64),
+        sheets::Fault::Differs => 10,
+        sheets::Fault::Wrong { at, right, stated } => 11
             + 256 * (at as u64)
-            + 16777216 * wide_marks(right)
-            + 1099511627776 * wide_marks(stated),
+            + 16777216 * u64::from(right)
+            + 1099511627776 * u64::from(stated),
+    }
+}
+
+// A verdict in one word.
+fn pack(verdict: Result<(), Fault>) -> u64
+    requires { packed (checked verdict) < 2 ^ 64 }
+    ensures { result ≡ packed (checked verdict) }
+{
+    match verdict {
+        Ok(()) => 0,
+        Err(Fault::Ragged) => 2,
+        Err(Fault::Sheet(fault)) => pack_fault(fault),
     }
 }
 
 // The same of a writer's answer, with the sheet's length.
-fn pack_length(w: Written) -> u64
-    requires { packed_length (written w) < 2 ^ 64 }
-    ensures { result ≡ packed_length (written w) }
+fn pack_length(answer: Result<usize, Refusal>) -> u64
+    requires { packed_length (written answer) < 2 ^ 64 }
+    ensures { result ≡ packed_length (written answer) }
 {
-    match w {
-        Written::Sheet(len) => 256 * (len as u64),
-        Written::Refused(why) => wide(why.number()),
+    match answer {
+        Ok(len) => 256 * (len as u64),
+        Err(why) => u64::from(why.number()),
+    }
+}
+
+// What a series is asked under: no stops come through the boundary, and no width mode.
+fn unstopped<'a>(limits: Limits) -> Terms<'a>
+    ensures { told result ≡ unstopped limits }
+{
+    Terms {
+        limits,
+        width: SAME_WIDTHS,
+        stops: &[],
+        moving: false,
     }
 }
 
 // The three calls on the bytes of the values, with rooms for what is read of them and for its marks: these hold as many as there
 // are values, unless the values are too many.
 
-fn mark_in(
+fn mark_in<const ROOM: usize>(
     values: &[u8],
     limits: Limits,
     set: u32,
-    vs: &mut [f64],
-    ms: &mut [u16],
     marks: &mut [u8],
-) -> u64
-    requires { (length values.now / 8 ≤ most → length values.now / 8 ≤ length vs.old) × (length values.now / 8 ≤ most → length values.now / 8 ≤ length ms.old) }
-    ensures answer { result ≡ mark_number (unstopped limits) set values.now marks.old }
+) -> Result<(), Refusal>
+    requires { (length values.now / 8 ≤ most → length values.now / 8 ≤ ROOM) × (ROOM ≤ 4096) }
+    ensures answer { numbered result ≡ mark_number (unstopped limits) set values.now marks.old }
     ensures marks { marks.new ≡ mark_room (unstopped limits) set values.now marks.old }
 {
     let n = values.len() / 8;
-    let refused = read_values(values, set, vs);
-    if refused != 0 {
-        return refused;
+    let mut vs = [0.0f64; ROOM];
+    read_values(values, set, &mut vs)?;
+    let mut ms = [0u16; ROOM];
+    let set = RuleSet { mask: set as u16 };
+    rules::mark(&vs[..n], unstopped(limits), set, &mut ms)?;
+    if marks.len() / 2 < n {
+        return Err(Refusal::Series(rules::Refusal::TooShort));
     }
-    mark_values(&vs[0..n], limits, RuleSet { mask: set as u16 }, ms, marks)
+    put_marks(&ms[..n], marks);
+    Ok(())
 }
 
-fn check_in(values: &[u8], limits: Limits, set: u32, vs: &mut [f64], sheet: &[u8]) -> u64
-    requires { length values.now / 8 ≤ most → length values.now / 8 ≤ length vs.old }
-    ensures { result ≡ check_number (unstopped limits) set values.now sheet.now }
+fn check_in<const ROOM: usize>(
+    values: &[u8],
+    limits: Limits,
+    set: u32,
+    sheet: &[u8],
+) -> Result<(), Fault>
+    requires { (length values.now / 8 ≤ most → length values.now / 8 ≤ ROOM) × (ROOM ≤ 4096) }
+    ensures { packed (checked result) ≡ check_number (unstopped limits) set values.now sheet.now }
 {
     let n = values.len() / 8;
-    let refused = read_values(values, set, vs);
-    if refused != 0 {
-        return refused;
-    }
-    pack(sheets::check(
-        &vs[0..n],
-        &[],
-        false,
-        limits,
-        SAME_WIDTHS,
-        RuleSet { mask: set as u16 },
-        sheet,
-    ))
+    let mut vs = [0.0f64; ROOM];
+    read_values(values, set, &mut vs)?;
+    let set = RuleSet { mask: set as u16 };
+    Ok(sheets::check(&vs[..n], unstopped(limits), set, sheet)?)
 }
 
-fn write_in(values: &[u8], limits: Limits, set: u32, vs: &mut [f64], sheet: &mut [u8]) -> u64
-    requires { length values.now / 8 ≤ most → length values.now / 8 ≤ length vs.old }
-    ensures answer { result ≡ write_number (unstopped limits) set values.now sheet.old }
+fn write_in<const ROOM: usize>(
+    values: &[u8],
+    limits: Limits,
+    set: u32,
+    sheet: &mut [u8],
+) -> Result<usize, Refusal>
+    requires { (length values.now / 8 ≤ most → length values.now / 8 ≤ ROOM) × (ROOM ≤ 4096) }
+    ensures answer { packed_length (written result) ≡ write_number (unstopped limits) set values.now sheet.old }
     ensures room { sheet.new ≡ write_room (unstopped limits) set values.now sheet.old }
 {
     let n = values.len() / 8;
-    let refused = read_values(values, set, vs);
-    if refused != 0 {
-        return refused;
-    }
-    pack_length(sheets::write(
-        &vs[0..n],
-        &[],
-        false,
-        limits,
-        SAME_WIDTHS,
-        RuleSet { mask: set as u16 },
-        sheet,
-    ))
+    let mut vs = [0.0f64; ROOM];
+    read_values(values, set, &mut vs)?;
+    let set = RuleSet { mask: set as u16 };
+    Ok(sheets::write(&vs[..n], unstopped(limits), set, sheet)?)
 }
 
 /// Marks every point of a series: two bytes a point at the front of `marks`, low byte first, with test b of the set in
@@ -249,20 +250,9 @@ pub fn dramulenz_mark(values: &[u8], ucl: f64, cl: f64, lcl: f64, set: u32, mark
 {
     let limits = Limits { ucl, cl, lcl };
     if values.len() <= 8 * FEW {
-        let mut vs = [0.0f64; FEW];
-        let mut ms = [0u16; FEW];
-        return mark_in(values, limits, set, &mut vs[0..FEW], &mut ms[0..FEW], marks);
+        return u64::from(mark_in::<FEW>(values, limits, set, marks).number());
     }
-    let mut vs = [0.0f64; MOST];
-    let mut ms = [0u16; MOST];
-    mark_in(
-        values,
-        limits,
-        set,
-        &mut vs[0..MOST],
-        &mut ms[0..MOST],
-        marks,
-    )
+    u64::from(mark_in::<MOST>(values, limits, set, marks).number())
 }
 
 /// Checks the bytes `sheet`, whoever made them, against a series, its limits and a rule set.
@@ -287,11 +277,9 @@ pub fn dramulenz_check(values: &[u8], ucl: f64, cl: f64, lcl: f64, set: u32, she
 {
     let limits = Limits { ucl, cl, lcl };
     if values.len() <= 8 * FEW {
-        let mut vs = [0.0f64; FEW];
-        return check_in(values, limits, set, &mut vs[0..FEW], sheet);
+        return pack(check_in::<FEW>(values, limits, set, sheet));
     }
-    let mut vs = [0.0f64; MOST];
-    check_in(values, limits, set, &mut vs[0..MOST], sheet)
+    pack(check_in::<MOST>(values, limits, set, sheet))
 }
 
 /// Writes the mark sheet of a series, its limits and a rule set at the front of `sheet`.
@@ -321,11 +309,9 @@ pub fn dramulenz_write(
 {
     let limits = Limits { ucl, cl, lcl };
     if values.len() <= 8 * FEW {
-        let mut vs = [0.0f64; FEW];
-        return write_in(values, limits, set, &mut vs[0..FEW], sheet);
+        return pack_length(write_in::<FEW>(values, limits, set, sheet));
     }
-    let mut vs = [0.0f64; MOST];
-    write_in(values, limits, set, &mut vs[0..MOST], sheet)
+    pack_length(write_in::<MOST>(values, limits, set, sheet))
 }
 
 /// The square root of `x`, rounded to the nearest f64; that of +0.0 and of -0.0 is the same zero.
@@ -340,8 +326,5 @@ pub fn dramulenz_write(
 pub fn dramulenz_root(x: f64) -> f64
     ensures { result ≡ root_number x }
 {
-    match root::root(x) {
-        Rooted::Root(r) => r,
-        Rooted::Refused => 0.0,
-    }
+    root::root(x).unwrap_or(0.0)
 }

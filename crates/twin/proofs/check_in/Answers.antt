@@ -1,66 +1,51 @@
--- `twin::check_in` meets its contract. Assumes nothing.
-use Prim.Native.Nat.{◌-◌, ◌/◌, ◌^◌, ◌<◌}
+-- `twin::check_in` meets its contract: what is refused before a value is read, then the checker's verdict. Assumes nothing.
 use native.Mathlib.Omega.{arith}
-use mathlib.Core.Path.{sym, ap, ◌∙◌, subst}
-use mathlib.Core.List.{List}
-use lib.Ieee.{Float}
-use lib.ListN.{length}
-use Rattle.rules.specs.Terms.{unstopped}
-use Rattle.sheets.specs.Answers.{Verdict, check_of}
-use Rattle.sheets.proofs.Places.{check-bounded}
-use Rattle.twin.specs.Bytes.{floats_of}
+use mathlib.Core.Path.{◌≡◌, sym, ap, ◌∙◌}
+use borrow.Author.Rules.{rules}
+use Rattle.std.specs.Prelude.{Err}
+use Rattle.sheets.specs.Answers.{checked as verdict}
+use Rattle.twin.specs.declared.Fault.TheVariants.{Sheet}
 use Rattle.twin.specs.Answers.{packed}
-use Rattle.twin.proofs.Refusing.{begun, values-front, check-stops, check-goes}
-use Rattle.twin.proofs.Packing.{packed-fits}
+use Rattle.twin.specs.Steps.{as_fault, checked}
+use Rattle.twin.proofs.Refusing.{starts, stopped, begun, check-stops, check-whole}
 use Rattle.twin.proofs.check_in.Goals as goal
 
-pub read_values-refused-requires : goal.read_values-refused-requires
-read_values-refused-requires c =
-    c.requires
-
-pub returns-then-refused-ne0 : goal.returns-then-refused-ne0
-returns-then-refused-ne0 c =
-    let args = c.args in
-    let bs = args.values.now in
-    let terms = unstopped args.limits in
-    check-stops args.limits args.set bs c.read_values-refused.result c.read_values-refused.ensures.value c.if-refused-ne0.true args.sheet.now
-
-pub slice_bounds-check-end : goal.slice_bounds-check-end
-slice_bounds-check-end c =
-    let args = c.args in
-    let bs = args.values.now in
-    let started = sym c.read_values-refused.ensures.value ∙ c.if-refused-ne0.false in
-    omega (arith, c.requires (begun bs args.set started).few, c.read_values-refused.auto.vs)
+pub returns-in_err-read_values : goal.returns-in_err-read_values
+returns-in_err-read_values g c =
+    let a = c.args in
+    let bs = a.values.now in
+    let why = c.in_err-read_values.field-0.0 in
+    let passed_on : c.from_residual.result ≡ Err (as_fault why) = search rules in
+    let early = stopped bs a.set c.read_values.result c.read_values.ensures.answer why c.in_err-read_values.was in
+    ap (λ r. packed (checked r)) passed_on ∙ check-stops a.limits a.set bs why early a.sheet.now
 
 pub overflow_cast-set : goal.overflow_cast-set
-overflow_cast-set c =
-    let args = c.args in
-    let bs = args.values.now in
-    let started = sym c.read_values-refused.ensures.value ∙ c.if-refused-ne0.false in
-    omega (arith, (begun bs args.set started).small)
+overflow_cast-set g c =
+    let a = c.args in
+    let started = starts a.values.now a.set c.read_values.result c.read_values.ensures.answer c.in_ok-read_values.was in
+    omega (arith, (begun a.values.now a.set started).small)
 
-pub pack-requires : goal.pack-requires
-pack-requires c =
-    let args = c.args in
-    let bs = args.values.now in
-    let terms = unstopped args.limits in
-    let started = sym c.read_values-refused.ensures.value ∙ c.if-refused-ne0.false in
-    let values = values-front bs args.set started _ c.read_values-refused.new.vs (length bs / 8 - 0) (omega arith) c.read_values-refused.ensures.vs_after in
-    subst (λ (v : Verdict). packed v < 2 ^ 64)
-    (sym (c.check.ensures ∙ ap (λ (vs : List Float). check_of terms args.set vs args.sheet.now) values))
-    (packed-fits (check-bounded terms args.set (floats_of bs) args.sheet.now))
+pub shared_whole_as_front-check : goal.shared_whole_as_front-check
+shared_whole_as_front-check g c =
+    let a = c.args in
+    let started = starts a.values.now a.set c.read_values.result c.read_values.ensures.answer c.in_ok-read_values.was in
+    (c.requires.0 (begun a.values.now a.set started).few, omega (arith, c.requires.1))
+
+pub returns-in_err-check : goal.returns-in_err-check
+returns-in_err-check g c =
+    let a = c.args in
+    let bs = a.values.now in
+    let started = starts bs a.set c.read_values.result c.read_values.ensures.answer c.in_ok-read_values.was in
+    let found = c.in_err-check.field-0.0 in
+    let passed_on : c.from_residual-in_err-check.result ≡ Err (Sheet found) = search rules in
+    ap (λ r. packed (checked r)) passed_on
+    ∙ sym (ap (λ r. packed (verdict r)) c.in_err-check.was)
+    ∙ check-whole a.limits a.set bs started _ c.read_values.new.vs c.read_values.ensures.room _ c.unstopped.ensures a.sheet.now c.check.ensures
 
 pub returns : goal.returns
-returns c =
-    let args = c.args in
-    let bs = args.values.now in
-    let terms = unstopped args.limits in
-    let started = sym c.read_values-refused.ensures.value ∙ c.if-refused-ne0.false in
-    let values = values-front bs args.set started _ c.read_values-refused.new.vs (length bs / 8 - 0) (omega arith) c.read_values-refused.ensures.vs_after in
-    c.pack.ensures
-    ∙ ap packed (c.check.ensures ∙ ap (λ (vs : List Float). check_of terms args.set vs args.sheet.now) values)
-    ∙ check-goes args.limits args.set bs started args.sheet.now
-
-pub check-requires : goal.check-requires
-check-requires c =
-    tt
+returns g c =
+    let a = c.args in
+    let bs = a.values.now in
+    let started = starts bs a.set c.read_values.result c.read_values.ensures.answer c.in_ok-read_values.was in
+    sym (ap (λ r. packed (verdict r)) c.in_ok-check.was)
+    ∙ check-whole a.limits a.set bs started _ c.read_values.new.vs c.read_values.ensures.room _ c.unstopped.ensures a.sheet.now c.check.ensures

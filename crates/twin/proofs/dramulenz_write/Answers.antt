@@ -1,25 +1,16 @@
--- `twin::dramulenz_write` meets its contract: either rooms hold the values. Assumes nothing.
-use native.Mathlib.Omega.{arith}
+-- `twin::dramulenz_write` meets its contract: a word has room for the answer. Assumes nothing.
+use Prim.Native.Nat.{ℕ, ◌^◌, ◌<◌}
+use mathlib.Core.Path.{sym, subst}
+use Rattle.twin.specs.Answers.{terms_of}
+use Rattle.twin.proofs.Packing.{write-fits}
 use Rattle.twin.proofs.dramulenz_write.Goals as goal
 
-pub write_in-requires : goal.write_in-requires
-write_in-requires c =
-    λ few. omega (arith, c.if-values.true)
+pub pack_length-requires : goal.pack_length-requires
+pack_length-requires c =
+    let a = c.args in
+    subst (λ (n : ℕ). n < 2 ^ 64) (sym c.write_in.ensures.answer) (write-fits (terms_of a.ucl a.cl a.lcl) a.set a.values.now a.sheet.now)
 
-pub returns-then-values : goal.returns-then-values
-returns-then-values c =
-    record {
-      answer = c.write_in.ensures.answer;
-      room = c.write_in.ensures.room;
-    }
-
-pub write_in-requires-2 : goal.write_in-requires-2
-write_in-requires-2 c =
-    λ few. omega (arith, few)
-
-pub returns : goal.returns
-returns c =
-    record {
-      answer = c.write_in-2.ensures.answer;
-      room = c.write_in-2.ensures.room;
-    }
+pub pack_length-requires-2 : goal.pack_length-requires-2
+pack_length-requires-2 c =
+    let a = c.args in
+    subst (λ (n : ℕ). n < 2 ^ 64) (sym c.write_in-2.ensures.answer) (write-fits (terms_of a.ucl a.cl a.lcl) a.set a.values.now a.sheet.now)

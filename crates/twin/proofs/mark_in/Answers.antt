@@ -1,60 +1,62 @@
--- `twin::mark_in` meets its contract. Assumes nothing.
-use Prim.Native.Nat.{◌-◌, ◌/◌}
+-- `twin::mark_in` meets its contract: what is refused before a value is read, then what marking refuses, then the room. Assumes nothing.
 use native.Mathlib.Omega.{arith}
-use mathlib.Core.Path.{sym, ap, ◌∙◌}
-use mathlib.Core.List.{List}
-use lib.Ieee.{Float}
-use lib.ListN.{length}
-use Rattle.rules.specs.Terms.{unstopped}
-use Rattle.rules.specs.Marking.{answer_of}
-use Rattle.twin.specs.Answers.{bytes_after}
-use Rattle.twin.proofs.FromBytes.{length-floats}
-use Rattle.twin.proofs.Refusing.{begun, values-front, mark-stops, mark-goes}
+use mathlib.Core.Path.{◌≡◌, ap, ◌∙◌}
+use borrow.Author.Rules.{rules}
+use Rattle.std.specs.Prelude.{Err}
+use Rattle.twin.specs.declared.Refusal.TheVariants.{Series}
+use Rattle.twin.specs.Steps.{numbered}
+use Rattle.twin.proofs.Refusing.{starts, stopped, begun, mark-stops}
+use Rattle.twin.proofs.Marking.{mark-refused, mark-short, mark-done}
 use Rattle.twin.proofs.mark_in.Goals as goal
 
-pub read_values-refused-requires : goal.read_values-refused-requires
-read_values-refused-requires c =
-    c.requires.0
-
-pub returns-then-refused-ne0 : goal.returns-then-refused-ne0
-returns-then-refused-ne0 c =
-    let args = c.args in
-    let bs = args.values.now in
-    let terms = unstopped args.limits in
-    let all = mark-stops args.limits args.set bs c.read_values-refused.result c.read_values-refused.ensures.value c.if-refused-ne0.true args.marks.now in
-    record { answer = all.0; marks = all.1 }
-
-pub slice_bounds-mark_values-end : goal.slice_bounds-mark_values-end
-slice_bounds-mark_values-end c =
-    let args = c.args in
-    let bs = args.values.now in
-    let started = sym c.read_values-refused.ensures.value ∙ c.if-refused-ne0.false in
-    omega (arith, c.requires.0 (begun bs args.set started).few, c.read_values-refused.auto.vs)
+pub returns-in_err-read_values : goal.returns-in_err-read_values
+returns-in_err-read_values g c =
+    let a = c.args in
+    let bs = a.values.now in
+    let why = c.in_err-read_values.field-0.0 in
+    let passed_on : c.from_residual.result ≡ Err why = search rules in
+    let early = stopped bs a.set c.read_values.result c.read_values.ensures.answer why c.in_err-read_values.was in
+    let all = mark-stops a.limits a.set bs why early a.marks.now in
+    record { answer = ap numbered passed_on ∙ all.0; marks = all.1 }
 
 pub overflow_cast-set : goal.overflow_cast-set
-overflow_cast-set c =
-    let args = c.args in
-    let bs = args.values.now in
-    let started = sym c.read_values-refused.ensures.value ∙ c.if-refused-ne0.false in
-    omega (arith, (begun bs args.set started).small)
+overflow_cast-set g c =
+    let a = c.args in
+    let started = starts a.values.now a.set c.read_values.result c.read_values.ensures.answer c.in_ok-read_values.was in
+    omega (arith, (begun a.values.now a.set started).small)
 
-pub mark_values-requires : goal.mark_values-requires
-mark_values-requires c few =
-    let args = c.args in
-    let bs = args.values.now in
-    let started = sym c.read_values-refused.ensures.value ∙ c.if-refused-ne0.false in
-    let values = values-front bs args.set started _ c.read_values-refused.new.vs (length bs / 8 - 0) (omega arith) c.read_values-refused.ensures.vs_after in
-    let count = ap length values ∙ length-floats bs in
-    omega (arith, count, c.requires.1 (omega (arith, count, few)))
+pub shared_whole_as_front-mark : goal.shared_whole_as_front-mark
+shared_whole_as_front-mark g c =
+    let a = c.args in
+    let started = starts a.values.now a.set c.read_values.result c.read_values.ensures.answer c.in_ok-read_values.was in
+    (c.requires.0 (begun a.values.now a.set started).few, omega (arith, c.requires.1))
+
+pub returns-in_err-mark : goal.returns-in_err-mark
+returns-in_err-mark g c =
+    let a = c.args in
+    let bs = a.values.now in
+    let started = starts bs a.set c.read_values.result c.read_values.ensures.answer c.in_ok-read_values.was in
+    let why = c.in_err-mark.field-0.0 in
+    let passed_on : c.from_residual-in_err-mark.result ≡ Err (Series why) = search rules in
+    let all = mark-refused a.limits a.set bs started _ c.read_values.new.vs c.read_values.ensures.room _ c.unstopped.ensures
+    g.row.ROOM c.requires.0 c.mark.new.marks c.mark.result c.mark.ensures.answer why c.in_err-mark.was a.marks.now in
+    record { answer = ap numbered passed_on ∙ all.0; marks = all.1 }
+
+pub returns-then-marks-n : goal.returns-then-marks-n
+returns-then-marks-n g c =
+    let a = c.args in
+    let bs = a.values.now in
+    let started = starts bs a.set c.read_values.result c.read_values.ensures.answer c.in_ok-read_values.was in
+    let all = mark-short a.limits a.set bs started _ c.read_values.new.vs c.read_values.ensures.room _ c.unstopped.ensures
+    g.row.ROOM c.requires.0 c.mark.new.marks c.mark.result c.mark.ensures.answer c.mark.ensures.marks c.in_ok-mark.was a.marks.now c.if-marks-n.true in
+    record { answer = all.0; marks = all.1 }
 
 pub returns : goal.returns
-returns c =
-    let args = c.args in
-    let bs = args.values.now in
-    let terms = unstopped args.limits in
-    let started = sym c.read_values-refused.ensures.value ∙ c.if-refused-ne0.false in
-    let values = values-front bs args.set started _ c.read_values-refused.new.vs (length bs / 8 - 0) (omega arith) c.read_values-refused.ensures.vs_after in
-    let goes = mark-goes args.limits args.set bs started args.marks.now in record {
-      answer = c.mark_values.ensures.value ∙ ap (λ (vs : List Float). answer_of terms args.set vs (length args.marks.now / 2)) values ∙ goes.0;
-      marks = c.mark_values.ensures.marks_after ∙ ap (λ (vs : List Float). bytes_after terms args.set vs args.marks.now) values ∙ goes.1;
-    }
+returns g c =
+    let a = c.args in
+    let bs = a.values.now in
+    let started = starts bs a.set c.read_values.result c.read_values.ensures.answer c.in_ok-read_values.was in
+    let all = mark-done a.limits a.set bs started _ c.read_values.new.vs c.read_values.ensures.room _ c.unstopped.ensures
+    g.row.ROOM c.requires.0 c.mark.new.marks c.mark.result c.mark.ensures.answer c.mark.ensures.marks c.in_ok-mark.was a.marks.now
+    c.put_marks.new.out c.if-marks-n.false c.put_marks.ensures in
+    record { answer = all.0; marks = all.1 }

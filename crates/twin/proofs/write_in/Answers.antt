@@ -1,69 +1,54 @@
--- `twin::write_in` meets its contract. Assumes nothing.
-use Prim.Native.Nat.{ℕ, ◌-◌, ◌/◌, ◌^◌, ◌<◌}
+-- `twin::write_in` meets its contract: what is refused before a value is read, then the writer's answer. Assumes nothing.
 use native.Mathlib.Omega.{arith}
-use mathlib.Core.Path.{sym, ap, ◌∙◌, subst}
-use mathlib.Core.List.{List}
-use lib.Ieee.{Float}
-use lib.ListN.{length}
-use Rattle.rules.specs.Terms.{unstopped}
-use Rattle.sheets.specs.Answers.{write_of, room_after}
-use Rattle.sheets.proofs.Places.{write-short}
-use Rattle.twin.specs.Bytes.{floats_of}
+use mathlib.Core.Path.{◌≡◌, sym, ap, ◌∙◌}
+use borrow.Author.Rules.{rules}
+use Rattle.std.specs.Prelude.{Err}
+use Rattle.sheets.specs.Answers.{written as sent}
+use Rattle.twin.specs.declared.Refusal.TheVariants.{Series}
 use Rattle.twin.specs.Answers.{packed_length}
-use Rattle.twin.proofs.Refusing.{begun, values-front, write-stops, write_goes}
-use Rattle.twin.proofs.Packing.{length-fits}
+use Rattle.twin.specs.Steps.{written}
+use Rattle.twin.proofs.Refusing.{starts, stopped, begun, write-stops, write-whole}
 use Rattle.twin.proofs.write_in.Goals as goal
 
-pub read_values-refused-requires : goal.read_values-refused-requires
-read_values-refused-requires c =
-    c.requires
-
-pub returns-then-refused-ne0 : goal.returns-then-refused-ne0
-returns-then-refused-ne0 c =
-    let args = c.args in
-    let bs = args.values.now in
-    let terms = unstopped args.limits in
-    let all = write-stops args.limits args.set bs c.read_values-refused.result c.read_values-refused.ensures.value c.if-refused-ne0.true args.sheet.now in
-    record { answer = all.0; room = all.1 }
-
-pub slice_bounds-write-end : goal.slice_bounds-write-end
-slice_bounds-write-end c =
-    let args = c.args in
-    let bs = args.values.now in
-    let started = sym c.read_values-refused.ensures.value ∙ c.if-refused-ne0.false in
-    omega (arith, c.requires (begun bs args.set started).few, c.read_values-refused.auto.vs)
+pub returns-in_err-read_values : goal.returns-in_err-read_values
+returns-in_err-read_values g c =
+    let a = c.args in
+    let bs = a.values.now in
+    let why = c.in_err-read_values.field-0.0 in
+    let passed_on : c.from_residual.result ≡ Err why = search rules in
+    let early = stopped bs a.set c.read_values.result c.read_values.ensures.answer why c.in_err-read_values.was in
+    let all = write-stops a.limits a.set bs why early a.sheet.now in
+    record { answer = ap (λ r. packed_length (written r)) passed_on ∙ all.0; room = all.1 }
 
 pub overflow_cast-set : goal.overflow_cast-set
-overflow_cast-set c =
-    let args = c.args in
-    let bs = args.values.now in
-    let started = sym c.read_values-refused.ensures.value ∙ c.if-refused-ne0.false in
-    omega (arith, (begun bs args.set started).small)
+overflow_cast-set g c =
+    let a = c.args in
+    let started = starts a.values.now a.set c.read_values.result c.read_values.ensures.answer c.in_ok-read_values.was in
+    omega (arith, (begun a.values.now a.set started).small)
 
-pub pack_length-requires : goal.pack_length-requires
-pack_length-requires c =
-    let args = c.args in
-    let bs = args.values.now in
-    let terms = unstopped args.limits in
-    let started = sym c.read_values-refused.ensures.value ∙ c.if-refused-ne0.false in
-    let values = values-front bs args.set started _ c.read_values-refused.new.vs (length bs / 8 - 0) (omega arith) c.read_values-refused.ensures.vs_after in
-    subst (λ (a : ℕ × ℕ). packed_length a < 2 ^ 64)
-    (sym (c.write.ensures.answer ∙ ap (λ (vs : List Float). write_of terms args.set vs (length args.sheet.now)) values))
-    (length-fits (write-short terms args.set (floats_of bs) (length args.sheet.now)))
+pub shared_whole_as_front-write : goal.shared_whole_as_front-write
+shared_whole_as_front-write g c =
+    let a = c.args in
+    let started = starts a.values.now a.set c.read_values.result c.read_values.ensures.answer c.in_ok-read_values.was in
+    (c.requires.0 (begun a.values.now a.set started).few, omega (arith, c.requires.1))
 
-pub returns : goal.returns
-returns c =
-    let args = c.args in
-    let bs = args.values.now in
-    let terms = unstopped args.limits in
-    let started = sym c.read_values-refused.ensures.value ∙ c.if-refused-ne0.false in
-    let values = values-front bs args.set started _ c.read_values-refused.new.vs (length bs / 8 - 0) (omega arith) c.read_values-refused.ensures.vs_after in
-    let answer = c.write.ensures.answer ∙ ap (λ (vs : List Float). write_of terms args.set vs (length args.sheet.now)) values in
-    let goes = write_goes args.limits args.set bs started args.sheet.now in record {
-      answer = c.pack_length.ensures ∙ ap packed_length answer ∙ goes.0;
-      room = c.write.ensures.room ∙ ap (λ (vs : List Float). room_after terms args.set vs args.sheet.now) values ∙ goes.1;
+pub returns-in_err-write : goal.returns-in_err-write
+returns-in_err-write g c =
+    let a = c.args in
+    let bs = a.values.now in
+    let started = starts bs a.set c.read_values.result c.read_values.ensures.answer c.in_ok-read_values.was in
+    let why = c.in_err-write.field-0.0 in
+    let passed_on : c.from_residual-in_err-write.result ≡ Err (Series why) = search rules in
+    let all = write-whole a.limits a.set bs started _ c.read_values.new.vs c.read_values.ensures.room _ c.unstopped.ensures a.sheet.now c.write.ensures.answer c.write.ensures.room in
+    record {
+      answer = ap (λ r. packed_length (written r)) passed_on ∙ sym (ap (λ r. packed_length (sent r)) c.in_err-write.was) ∙ all.0;
+      room = all.1;
     }
 
-pub write-requires : goal.write-requires
-write-requires c =
-    tt
+pub returns : goal.returns
+returns g c =
+    let a = c.args in
+    let bs = a.values.now in
+    let started = starts bs a.set c.read_values.result c.read_values.ensures.answer c.in_ok-read_values.was in
+    let all = write-whole a.limits a.set bs started _ c.read_values.new.vs c.read_values.ensures.room _ c.unstopped.ensures a.sheet.now c.write.ensures.answer c.write.ensures.room in
+    record { answer = sym (ap (λ r. packed_length (sent r)) c.in_ok-write.was) ∙ all.0; room = all.1 }
