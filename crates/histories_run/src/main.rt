@@ -4,8 +4,8 @@
 // published Rust work them out.
 #![tactic(auto)]
 
-use histories::{Answer, Lane, Taken};
-use rules::Limits;
+use histories::Lane;
+use rules::{Limits, Refusal};
 use sets::RuleSet;
 use std::io;
 
@@ -17,12 +17,7 @@ const STRETCH: u64 = 40;
 // After so many values come five calls that have to be refused.
 const BETWEEN: u64 = 1000;
 
-// What is counted: the marks of each test, then the values taken and refused, and all marks folded into one number.
-const TAKEN: usize = 9;
-
-const REFUSED: usize = 10;
-
-const ALL: usize = 11;
+const ALL: RuleSet = RuleSet { mask: RuleSet::ALL };
 
 fn limits(ucl: f64) -> Limits {
     Limits {
@@ -41,115 +36,123 @@ fn drawn(x: u64) -> u64 {
     x % 0x1_0000_0000 / 0x10_0000
 }
 
-// How many halves above 21 the value at i lies: anywhere, within one sigma, up and down by turns, rising, or above one sigma.
-fn halves(i: u64, kind: u64, r: u64) -> u32 {
-    if kind == 0 {
-        return (r % 17) as u32;
-    }
-    if kind == 1 {
-        return 6 + (r % 5) as u32;
-    }
-    if kind == 2 {
-        return (i % 2) as u32 * 9 + (r % 8) as u32;
-    }
-    if kind == 3 {
-        return (i % 17) as u32;
-    }
-    11 + (r % 6) as u32
+// How the values of a stretch lie.
+#[derive(Clone, Copy)]
+enum Kind {
+    Anywhere,
+    WithinOneSigma,
+    ByTurns,
+    Rising,
+    AboveOneSigma,
 }
 
-fn value(i: u64, kind: u64, r: u64) -> f64 {
-    21.0 + halves(i, kind, r) as f64 / 2.0
-}
-
-// Takes a number into another, so that every number taken in tells.
-fn fold(all: u64, x: u64) -> u64 {
-    (all % 4_294_967_291 * 31 + x % 4_294_967_291) % 4_294_967_291
-}
-
-fn one_more(counts: &mut [u64; 12], k: usize) {
-    if k < 12 {
-        counts[k] = std::num::wrapping_add_u64(counts[k], 1);
-    }
-}
-
-// Counts the marks at a value by their tests.
-fn count_marks(counts: &mut [u64; 12], marks: u16) {
-    let mut left = marks;
-    let mut b: usize = 0;
-    while b < 9 {
-        if left % 2 == 1 {
-            one_more(counts, b);
+impl Kind {
+    fn drawn(r: u64) -> Kind {
+        match r % 5 {
+            0 => Kind::Anywhere,
+            1 => Kind::WithinOneSigma,
+            2 => Kind::ByTurns,
+            3 => Kind::Rising,
+            _ => Kind::AboveOneSigma,
         }
-        left = left / 2;
-        b += 1;
     }
-    counts[ALL] = fold(counts[ALL], marks as u64);
+
+    // How many halves above 21 the value at i lies.
+    fn halves(self, i: u64, r: u64) -> u32 {
+        let halves = match self {
+            Kind::Anywhere => r % 17,
+            Kind::WithinOneSigma => 6 + r % 5,
+            Kind::ByTurns => i % 2 * 9 + r % 8,
+            Kind::Rising => i % 17,
+            Kind::AboveOneSigma => 11 + r % 6,
+        };
+        halves as u32
+    }
+
+    fn value(self, i: u64, r: u64) -> f64 {
+        21.0 + f64::from(self.halves(i, r)) / 2.0
+    }
 }
 
-// Counts what is answered, and gives the lane from then on.
-fn count(counts: &mut [u64; 12], taken: Taken) -> Lane {
-    let answer = taken.answer;
-    match answer {
-        Answer::Marks(marks) => {
-            one_more(counts, TAKEN);
-            count_marks(counts, marks);
+// What is counted: the marks of each test, the values taken and refused, and all marks in one number.
+#[derive(Drop)]
+struct Tally {
+    marked: [u64; 9],
+    taken: u64,
+    refused: u64,
+    all: u64,
+}
+
+impl Tally {
+    fn start() -> Tally {
+        Tally {
+            marked: [0; 9],
+            taken: 0,
+            refused: 0,
+            all: 0,
         }
-        Answer::Refused(_) => one_more(counts, REFUSED),
     }
-    taken.lane
+
+    // Counts the marks at a value by their tests, and takes them in, so that every number taken in tells.
+    fn count_marks(&mut self, marks: u16) {
+        for (bit, n) in self.marked.iter_mut().enumerate() {
+            if marks >> bit & 1 == 1 {
+                *n = n.wrapping_add(1);
+            }
+        }
+        self.all = (self.all % 4_294_967_291 * 31 + u64::from(marks)) % 4_294_967_291;
+    }
+
+    // Counts what is answered.
+    fn count(&mut self, answer: Result<u16, Refusal>) {
+        match answer {
+            Ok(marks) => {
+                self.taken = self.taken.wrapping_add(1);
+                self.count_marks(marks);
+            }
+            Err(_) => self.refused = self.refused.wrapping_add(1),
+        }
+    }
 }
 
 // Calls that have to be refused, and leave the lane as it is: a value that is not finite, either way, a set that is none, a
 // width mode that is none, and a limit that is not finite.
-fn refused(lane: Lane, counts: &mut [u64; 12]) -> Lane {
-    let all = RuleSet { mask: RuleSet::ALL };
+fn refused(lane: &mut Lane, tally: &mut Tally) {
     let none = RuleSet { mask: 512 };
-    let lane = count(counts, lane.take(0.0 / 0.0, limits(28.0), 0, all));
-    let lane = count(counts, lane.take(1.0 / 0.0, limits(28.0), 0, all));
-    let lane = count(counts, lane.take(29.0, limits(28.0), 0, none));
-    let lane = count(counts, lane.take(29.0, limits(28.0), 2, all));
-    count(counts, lane.take(29.0, limits(1.0 / 0.0), 0, all))
+    tally.count(lane.take(f64::NAN, limits(28.0), 0, ALL));
+    tally.count(lane.take(f64::INFINITY, limits(28.0), 0, ALL));
+    tally.count(lane.take(29.0, limits(28.0), 0, none));
+    tally.count(lane.take(29.0, limits(28.0), 2, ALL));
+    tally.count(lane.take(29.0, limits(f64::INFINITY), 0, ALL));
 }
 
 // Runs all values through a lane.
-fn run(counts: &mut [u64; 12]) {
-    let all = RuleSet { mask: RuleSet::ALL };
+fn run(tally: &mut Tally) {
     let mut lane = Lane::start();
     let mut x: u64 = 1;
-    let mut kind: u64 = 0;
-    let mut i: u64 = 0;
-    while i < VALUES {
+    let mut kind = Kind::Anywhere;
+    for i in 0..VALUES {
         x = next(x);
         if i % STRETCH == 0 {
-            kind = drawn(x) % 5;
+            kind = Kind::drawn(drawn(x));
             x = next(x);
         }
-        lane = count(
-            counts,
-            lane.take(value(i, kind, drawn(x)), limits(28.0), i % 2, all),
-        );
-        i += 1;
-        if i % BETWEEN == 0 {
-            lane = refused(lane, counts);
+        tally.count(lane.take(kind.value(i, drawn(x)), limits(28.0), i % 2, ALL));
+        if (i + 1) % BETWEEN == 0 {
+            refused(&mut lane, tally);
         }
     }
-}
-
-// Writes a number with what stands before it.
-fn say(rt: &impl Print, before: &str, n: u64) -> io::Result<()> {
-    print!(rt; "{before}{n}")
 }
 
 fn main(rt: HostRuntime) -> io::Result<()> {
-    let mut counts = [0u64; 12];
-    run(&mut counts);
-    say(&rt, "", counts[TAKEN])?;
-    say(&rt, " values taken, ", counts[REFUSED])?;
-    print!(rt; " refused; marked by each test")?;
-    for marked in &counts[..TAKEN] {
-        say(&rt, " ", *marked)?;
+    let mut tally = Tally::start();
+    run(&mut tally);
+    print!(rt;
+        "{} values taken, {} refused; marked by each test",
+        tally.taken, tally.refused
+    )?;
+    for marked in &tally.marked {
+        print!(rt; " {marked}")?;
     }
-    say(&rt, "; all marks come to ", counts[ALL])?;
-    println!(rt; "")
+    println!(rt; "; all marks come to {}", tally.all)
 }

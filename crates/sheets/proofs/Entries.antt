@@ -6,7 +6,8 @@ use native.Mathlib.Omega.{arith}
 use mathlib.Core.Path.{◌≡◌, refl, sym, ap, ap₂, ◌∙◌, subst}
 use mathlib.Core.Bool.{Bool, true, false, not, ◌||◌}
 use mathlib.Core.List.{List, [], ◌∷◌, ◌++◌, append_assoc}
-use lib.Bits.{bit_and, bit_or, or_add_and, and_le_l, and_le_r}
+use lib.Bits.{bit_and, bit_or}
+use Rattle.std.proofs.lemmas.Nat.{le_or_l, le_or_r}
 use lib.Dec.{eqb, ltb, leb}
 use lib.ListN.{length, take, drop, get_or, set, replicate, length-set, length-replicate, take-append-drop, replicate-append-replicate}
 use lib.Seq.{take_at, drop_at, take-add, drop-drop, take-suc-set, drop-set-lt}
@@ -157,7 +158,7 @@ neither false b e = (refl, e)
 neither true b e = absurd (let z : ◌≡◌ {A = ℕ} 0 1 = cc in omega arith)
 
 or_above : (a b : ℕ) → (a ≤ bit_or a b) × (b ≤ bit_or a b)
-or_above a b = let sum = or_add_and a b in let l = and_le_l a b in let r = and_le_r a b in (omega arith, omega arith)
+or_above a b = (le_or_l a b, le_or_r a b)
 
 module _ (s : List ℕ) (set left at skip m : ℕ) (h : skip < left) (first : skip ≡ get_or s at 0) (low : skip < 128)
     (nz : m ≡ 0 → ⊥) (inside : bit_and m set ≡ m) where

@@ -66,10 +66,6 @@ pub zeros-snoc : (n : ℕ) (ms : List ℕ) → replicate (suc n) 0 ++ ms ≡ rep
 zeros-snoc zero ms = refl
 zeros-snoc (suc n) ms = ap (λ (l : List ℕ). 0 ∷ l) (zeros-snoc n ms)
 
-pub zeros-only : (n : ℕ) → replicate {A = ℕ} n 0 ≡ replicate n 0 ++ []
-zeros-only zero = refl
-zeros-only (suc n) = ap (λ (l : List ℕ). 0 ∷ l) (zeros-only n)
-
 -- so long a front of them has so many, where there are as many
 pub front_long : (n k : ℕ) → k ≤ n → length (take k (replicate {A = ℕ} n 0)) ≡ k
 front_long n k h = length-take-le k (replicate n 0) (omega (arith, length-replicate {A = ℕ} n 0))

@@ -5,7 +5,7 @@ use native.Mathlib.Nat.{add-zero}
 use mathlib.Core.Path.{◌≡◌, refl, sym, ap, ap₂, ◌∙◌, subst}
 use mathlib.Core.Bool.{Bool, true, false, cond}
 use mathlib.Core.Logic.{◌↔◌}
-use mathlib.Core.List.{List, [], ◌∷◌, ◌++◌}
+use mathlib.Core.List.{List, [], ◌∷◌, ◌++◌, append-nil}
 use lib.Bits.{bit_and, and_le_r, and_zero_l}
 use lib.Dec.{ltb, leb, eqb}
 use lib.ListN.{length, drop, get_or, replicate, length-append, length-replicate, length-drop, drop_of_length-le}
@@ -16,7 +16,7 @@ use Rattle.groups.proofs.Numbers.{Bytes, read-there, written_read}
 use Rattle.groups.proofs.Onward.{in_place, by_number}
 use Rattle.sheets.specs.Sheet.{marked, entries_of, sheet_of}
 use Rattle.sheets.specs.Said.{Said, fault, sheet, number, is_part, placed, entries, said_from}
-use Rattle.sheets.proofs.Points.{marked-none, marked-zero, marked-suc, marked-le, marked-zeros, zeros-snoc, zeros-only}
+use Rattle.sheets.proofs.Points.{marked-none, marked-zero, marked-suc, marked-le, marked-zeros, zeros-snoc}
 use Rattle.sheets.proofs.Points.{entries_of-none, entries_of-zero, entries_of-mark, entries_of-zeros}
 
 -- every point's marks are inside the set
@@ -75,7 +75,7 @@ module _ (s : List ℕ) (set : ℕ) (low : set < 2 ^ 64) where
   unfolding entries
   entries-say [] inside gap at h there =
       let end : length s ≤ at = omega (arith, sym (length-drop at s) ∙ ap length (there ∙ entries_of-none gap)) in
-      rw (marked-none, add-zero) (simp (le-ltb at (length s) end) (ap (sheet set) (zeros-only gap)))
+      rw (marked-none, add-zero) (simp (le-ltb at (length s) end) (ap (sheet set) (sym (append-nil (replicate gap 0)))))
   entries-say (m ∷ ms) inside gap at h there =
       point-says (eqb m 0) m refl ms (inside 0) gap at h there (λ g p. entries-say ms (λ i. inside (suc i)) g p)
 
@@ -158,7 +158,7 @@ holds-end : (s : List ℕ) (set left at t : ℕ) (ms : List ℕ) → (b : Bool) 
     → cond b (fault at) (sheet set (replicate left 0)) ≡ sheet t ms → Holds s set 0 left at t ms
 holds-end s set left at t ms true b e = not-sheet e
 holds-end s set left at t ms false b e =
-    let is : replicate left 0 ++ [] ≡ ms = sym (zeros-only left) ∙ (let f : replicate left 0 ≡ ms = cc in f) in
+    let is : replicate left 0 ++ [] ≡ ms = append-nil (replicate left 0) ∙ (let f : replicate left 0 ≡ ms = cc in f) in
     record {
       set_is = cc;
       points =

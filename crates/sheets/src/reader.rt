@@ -101,7 +101,7 @@ fn read_pairs(s: &[u8], set: u16, stated: &mut [u16], from: Reach) -> Reach
     let mut point = from.point;
     let mut at = from.at;
     let mut left = from.left;
-    // The place moves by four bytes in a turn, and a turn may be the last one.
+    // By hand: the place moves by four bytes in a turn, and how far it came is given back.
     while 1 < left && at < near_end {
         // skip, marks, skip, marks
         let a = u16::from(s[at]);
@@ -134,6 +134,7 @@ fn read_long(s: &[u8], set: u16, stated: &mut [u16], from: Reach) -> Reach
     let mut point = from.point;
     let mut at = from.at;
     let mut left = from.left;
+    // By hand: the place moves by three bytes in a turn, and how far it came is given back.
     while 0 < left && at < near_end {
         let skip = u16::from(s[at]);
         let low = u16::from(s[at + 1]);
