@@ -1,18 +1,16 @@
 // The limits of both series.
-ghost use Rattle.std.specs.Prelude.{◌≡◌, ◌≤◌, false, length};
+ghost use Rattle.std.specs.Prelude.{◌≡◌, ◌≤◌, length};
 ghost use Rattle.laws.specs.Front.{at_front};
-ghost use Rattle.charts.specs.Records.{record_wrong};
-ghost use Rattle.evaluating.specs.Asked.{asked};
 ghost use Rattle.evaluating.specs.Series.{points_in, series_of};
 ghost use Rattle.evaluating.specs.Limits.{factor_for, main_limits, lower_limit, dispersion_limits};
-ghost use Rattle.evaluating.specs.Steps.{row_of, limits_from, measured};
+ghost use Rattle.evaluating.specs.Steps.{row_of, asks, limits_from, measured};
 
 use super::ChartLimits;
 use super::factors::Factor;
 use super::kinds::{Kind, kind_of};
-use super::right::Right;
-use super::series::{Series, fill, points_in};
-use charts::{Chart, Refusal};
+use super::right::{Held, Right};
+use super::series::{Series, points_in};
+use charts::Refusal;
 use rules::Limits;
 
 impl Right {
@@ -75,22 +73,19 @@ impl Right {
     }
 }
 
-// Writes both series, and gives their limits, unless one is not finite (7).
-pub fn measure(
-    c: Chart,
-    values: &[f64],
-    main: &mut [f64],
-    dispersion: &mut [f64],
-) -> Result<ChartLimits, Refusal>
-    requires { (record_wrong c (length values.now) ≡ false)
-        × (points_in c 0 ≤ length main.old) × (points_in c 1 ≤ length dispersion.old) }
-    ensures limits { result ≡ measured (asked c values.now) }
-    ensures main { main.new ≡ at_front (series_of (asked c values.now) 0) main.old }
-    ensures dispersion { dispersion.new ≡ at_front (series_of (asked c values.now) 1) dispersion.old }
-{
-    let n = points_in(c, Series::Main);
-    let k = points_in(c, Series::Dispersion);
-    fill(c, Series::Main, values, main);
-    fill(c, Series::Dispersion, values, dispersion);
-    Right { chart: c }.limits_from(arith::mean_of(&main[..n]), arith::mean_of(&dispersion[..k]))
+impl Held<'_> {
+    // Writes both series, and gives their limits, unless one is not finite (7).
+    pub fn measure(self, main: &mut [f64], dispersion: &mut [f64]) -> Result<ChartLimits, Refusal>
+        requires { (points_in self.chart 0 ≤ length main.old) × (points_in self.chart 1 ≤ length dispersion.old) }
+        ensures limits { result ≡ measured (asks self.entry) }
+        ensures main { main.new ≡ at_front (series_of (asks self.entry) 0) main.old }
+        ensures dispersion { dispersion.new ≡ at_front (series_of (asks self.entry) 1) dispersion.old }
+    {
+        let n = points_in(self.chart, Series::Main);
+        let k = points_in(self.chart, Series::Dispersion);
+        self.fill(Series::Main, main);
+        self.fill(Series::Dispersion, dispersion);
+        let right = Right { chart: self.chart };
+        right.limits_from(arith::mean_of(&main[..n]), arith::mean_of(&dispersion[..k]))
+    }
 }
