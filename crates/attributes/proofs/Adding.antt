@@ -1,5 +1,7 @@
 -- A sample added, or not: the number, the record and the slices. Assumes nothing.
-use Rattle.std.proofs.Common.{◌≡◌, ℕ, Bool, true, false, cond, not, eqb, List, ◌∷◌, ◌++◌, set, sym, refl, ap, ◌∙◌, ne_eqb}
+use Rattle.std.proofs.Common.{◌≡◌, ℕ, Bool, true, false, cond, not, eqb, ltb, List, [], ◌∷◌, ◌++◌, set, sym, refl, ap, ◌∙◌, ne_eqb}
+use Rattle.laws.specs.Bools.{every}
+use Rattle.laws.proofs.Bools.{both}
 use Rattle.laws.specs.Refusals.{first_of}
 use Rattle.laws.proofs.Refusals.{numbers, first-append, first_else, each_first}
 use Rattle.attributes.specs.declared.Refusal.{Refusal}
@@ -35,6 +37,19 @@ numbered {is = is} s sample count counts sizes e f some g =
     g
     ∙ ap (λ (w : Bool). first_of (adding w s count counts sizes) 0) e
     ∙ in-their-place is sample (full count counts sizes) some f
+
+-- no number is 0, where none of the sample's own is
+with-full : (sample : List (Bool × ℕ)) (count counts sizes : ℕ) → numbers sample ≡ true → numbers (sample ++ full count counts sizes) ≡ true
+unfolding every
+with-full [] count counts sizes h = refl
+with-full (x ∷ xs) count counts sizes h =
+    let both_so = both (ltb 0 x.1) (numbers xs) h in
+    rw both_so.0 (with-full xs count counts sizes both_so.1)
+
+pub some-of : (wrong : Bool) (sample : List (Bool × ℕ)) (count counts sizes : ℕ) → numbers sample ≡ true
+    → numbers (add_refusals wrong sample count counts sizes) ≡ true
+unfolding every
+some-of wrong sample count counts sizes h = with-full sample count counts sizes h
 
 module _ {A : Type 0} (refusals : List (Bool × ℕ)) (before after : A) (some : numbers refusals ≡ true) (t : Result (Unit {0}) Refusal) (found : tested t ≡ first_of refusals 0) where
   by_number : add_of refusals before after ≡ cond (eqb (tested t) 0) (0, after) (tested t, before)

@@ -6,9 +6,8 @@ use lib.Ieee.{Float}
 use Rattle.numbers.proofs.Numbers.{Telling, answered-one}
 use Rattle.attributes.specs.declared.Refusal.{Refusal}
 use Rattle.attributes.specs.declared.Refusal.TheVariants as refusing
-use Rattle.attributes.specs.declared.PChart.{PChart}
-use Rattle.attributes.specs.declared.UChart.{UChart}
-use Rattle.attributes.specs.Records.{number, changed_p, changed_u}
+use Rattle.attributes.specs.declared.Chart.{Chart}
+use Rattle.attributes.specs.Records.{number, changed}
 use Rattle.attributes.specs.Evaluating.{evaluated}
 
 -- ---- refusals
@@ -58,11 +57,8 @@ number-one a b e = sym (named-number a) ∙ ap named e ∙ named-number b
 tells : Telling number
 tells = record { not_done = λ why e. number-some why (sym e); one = number-one }
 
-pub changed_p-one : (before : PChart) (a b : Result PChart Refusal) → changed_p before a ≡ changed_p before b → a ≡ b
-changed_p-one before = answered-one tells _ _ (λ c d e. e)
-
-pub changed_u-one : (before : UChart) (a b : Result UChart Refusal) → changed_u before a ≡ changed_u before b → a ≡ b
-changed_u-one before = answered-one tells _ _ (λ c d e. e)
+pub changed-one : {S : Type 0} (before : Chart S) (a b : Result (Chart S) Refusal) → changed before a ≡ changed before b → a ≡ b
+changed-one before = answered-one tells _ _ (λ c d e. e)
 
 pub evaluated-one : (a b : Result Float Refusal) → evaluated a ≡ evaluated b → a ≡ b
 evaluated-one = answered-one tells _ _ (λ x y e. e)

@@ -6,7 +6,7 @@ use lib.Ieee.{binary64, of_int}
 use lib.Ieee.Exact.{HasValue}
 use lib.Ieee.Back.{round_whole}
 use Rattle.floats.specs.Values.{whole}
-use Rattle.attributes.specs.Evaluating.{total_of}
+use Rattle.attributes.specs.Kinds.{total_of}
 use Rattle.attributes.specs.Steps.{Small}
 
 -- the total is std's sum

@@ -1,6 +1,6 @@
 // Totals of counts.
 ghost use Rattle.std.specs.Prelude.{◌≡◌, ◌≤◌, length};
-ghost use Rattle.attributes.specs.Evaluating.{total_of};
+ghost use Rattle.attributes.specs.Kinds.{total_of};
 ghost use Rattle.attributes.specs.Steps.{Small};
 
 // The total of counts that are few and small enough for it to fit.

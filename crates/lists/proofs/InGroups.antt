@@ -18,15 +18,6 @@ pub in_groups-one : (x : ℕ) → in_groups (x ∷ []) ≡ groups x
 unfolding in_groups
 in_groups-one x = append-nil (groups x)
 
--- one number more of what a function makes of a row
-pub in_groups_more : {A : Type 0} (f : A → ℕ) (xs : List A) (i : ℕ) (x : A) → i < length xs → x ≡ get_or xs i x
-    → in_groups (map f (take (i + 1) xs)) ≡ in_groups (map f (take i xs)) ++ groups (f x)
-in_groups_more f xs i x h e =
-    ap (λ (l : List _). in_groups (map f l)) (rw (add-one i, take-suc xs i x h, ← e))
-    ∙ ap in_groups (map-append f (take i xs) (x ∷ []))
-    ∙ in_groups-append (map f (take i xs)) (f x ∷ [])
-    ∙ ap (λ (l : List ℕ). in_groups (map f (take i xs)) ++ l) (in_groups-one (f x))
-
 -- what was put: a number by itself, a row that stands as it is, and numbers behind others
 pub put_one : (old : List ℕ) (x : ℕ) {new : List ℕ} → new ≡ old ++ groups x → new ≡ old ++ in_groups (x ∷ [])
 put_one old x e = e ∙ ap (λ (l : List ℕ). old ++ l) (sym (in_groups-one x))
@@ -40,3 +31,11 @@ put_then old xs ys e f =
     ∙ ap (λ (l : List ℕ). l ++ in_groups ys) e
     ∙ append_assoc old (in_groups xs) (in_groups ys)
     ∙ ap (λ (l : List ℕ). old ++ l) (sym (in_groups-append xs ys))
+
+-- one number more of what a function makes of a row
+pub put_next : {A : Type 0} (f : A → ℕ) (xs : List A) (i : ℕ) (x : A) → i < length xs → x ≡ get_or xs i x → (old : List ℕ) {now new : List ℕ}
+    → now ≡ old ++ in_groups (map f (take i xs)) → new ≡ now ++ groups (f x) → new ≡ old ++ in_groups (map f (take (i + 1) xs))
+put_next f xs i x h is old {now} e g =
+    put_then old (map f (take i xs)) (f x ∷ []) e (put_one now (f x) g)
+    ∙ ap (λ (l : List ℕ). old ++ in_groups l) (sym (map-append f (take i xs) (x ∷ [])))
+    ∙ ap (λ (l : List _). old ++ in_groups (map f l)) (sym (rw (add-one i, take-suc xs i x h, ← is)))

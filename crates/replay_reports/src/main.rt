@@ -7,8 +7,8 @@
 ghost use Rattle.std.specs.Prelude.{◌≡◌, ◌≤◌, length};
 ghost use Rattle.lists.specs.Outcomes.{OnlyIf};
 
-use lists::{Bytes, Item, Outcome, Replayed, Small};
-use reports::Reported;
+use lists::{Case, Difference, Fault, Item, Outcome};
+use numbers::Numbered;
 use std::io;
 
 // The tag of a report case.
@@ -25,26 +25,15 @@ const UNTOUCHED: u8 = 0xff;
 fn judge(flow: &[u8], room: &mut [u8], right: &[u8], n: usize) -> Outcome
     ensures { OnlyIf (room.new ≡ right.now) result }
 {
-    match reports::report(flow, room) {
-        Reported::Text(len) => {
-            if len != n {
-                return Outcome::Length(len);
-            }
-            lists::compare(room, right)
-        }
-        Reported::TooShort => Outcome::Refused(6),
+    let len = reports::report(flow, room).map_err(|why| Difference::Refused(why.number()))?;
+    if len != n {
+        return Err(Difference::Length(len));
     }
+    lists::compare(room, right)
 }
 
-// The same where the right bytes are still to be made, of the text in front of untouched ones.
-fn judge_against(flow: &[u8], text: &[u8], room: &mut [u8], right: &mut [u8]) -> Outcome
-    requires { length text.now ≤ length right.old }
-{
-    right[0..text.len()].copy_from_slice(text);
-    judge(flow, room, right, text.len())
-}
-
-// Room for any report of a list, and `SPARE` bytes more, untouched.
+// Room for any report of a list, and `SPARE` bytes more, untouched. It is a function since a goal would have to see through an array
+// so long.
 fn untouched() -> [u8; 400_005]
     ensures { 400005 ≡ length result }
 {
@@ -55,12 +44,11 @@ fn untouched() -> [u8; 400_005]
 fn short_taken(flow: &[u8], n: usize) -> bool
     requires { n ≤ 400001 }
 {
-    if n == 0 {
+    let Some(short) = n.checked_sub(1) else {
         return false;
-    }
-    let short = n - 1;
+    };
     let mut room = untouched();
-    reports::report(flow, &mut room[0..short]).number() != 6
+    reports::report(flow, &mut room[..short]).is_ok()
 }
 
 // Replays a case, told its flow file and the report stored for it.
@@ -69,53 +57,28 @@ fn replay_text(flow: &[u8], text: &[u8]) -> Outcome
 {
     let n = text.len();
     if short_taken(flow, n) {
-        return Outcome::Taken;
+        return Err(Difference::Taken);
     }
-    let end = n + SPARE;
     let mut room = untouched();
     let mut right = untouched();
-    judge_against(flow, text, &mut room[0..end], &mut right[0..end])
+    right[..n].copy_from_slice(text);
+    judge(flow, &mut room[..n + SPARE], &right[..n + SPARE], n)
 }
 
 // Replays the case that begins at the place `at`.
-fn replay_case(list: &[u8], at: usize) -> Replayed
+fn replay_case(list: &[u8], at: usize) -> Result<Case, Fault>
     requires { length list.now ≤ 400001 }
 {
-    let tag = match lists::read_small(list, at, Item::Tag, REPORT_CASE, REPORT_CASE) {
-        Small::Read(tag) => tag,
-        Small::Fault(fault) => return Replayed::Fault(fault),
-    };
-    let flow = match lists::read_bytes(list, tag.next, Item::Flow) {
-        Bytes::Read(flow) => flow,
-        Bytes::Fault(fault) => return Replayed::Fault(fault),
-    };
-    let text = match lists::read_bytes(list, flow.to, Item::Text) {
-        Bytes::Read(text) => text,
-        Bytes::Fault(fault) => return Replayed::Fault(fault),
-    };
-    let flow_from = flow.from;
-    let flow_to = flow.to;
-    let text_from = text.from;
-    let text_to = text.to;
-    let outcome = replay_text(&list[flow_from..flow_to], &list[text_from..text_to]);
-    Replayed::Case {
-        outcome,
-        next: text_to,
-    }
+    let tag = lists::read_small(list, at, Item::Tag, REPORT_CASE, REPORT_CASE)?;
+    let flow = lists::read_bytes(list, tag.next, Item::Flow)?;
+    let text = lists::read_bytes(list, flow.to, Item::Text)?;
+    Ok(Case {
+        outcome: replay_text(&list[flow.from..flow.to], &list[text.from..text.to]),
+        next: text.to,
+    })
 }
 
-// Replays every case of a list.
-fn replay<P: Print>(rt: &P, list: &[u8]) -> io::Result<()>
-    requires { length list.now ≤ 400001 }
-{
-    let mut run = lists::begin(rt, list)?;
-    while run.k < run.cases {
-        run = lists::past(rt, run, replay_case(list, run.at))?;
-    }
-    lists::end(rt, list, run)
-}
-
-// Room for a list, and one byte more, so that a longer one is seen.
+// Room for a list, and one byte more, so that a longer one is seen; a function as `untouched` is.
 fn list_room() -> [u8; 400_001]
     ensures { 400001 ≡ length result }
 {
@@ -125,5 +88,6 @@ fn list_room() -> [u8; 400_001]
 fn main(rt: HostRuntime) -> io::Result<()> {
     let mut bytes = list_room();
     let n = lists::read_input(&rt, &mut bytes)?;
-    replay(&rt, &bytes[0..n])
+    let list = &bytes[..n];
+    lists::replay(&rt, list, |at| replay_case(list, at))
 }

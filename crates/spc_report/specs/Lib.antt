@@ -1,2 +1,0 @@
--- What the parts of the program find.
-pub mod Input
