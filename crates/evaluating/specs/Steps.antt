@@ -10,9 +10,10 @@ use Rattle.charts.specs.Records.{number}
 use Rattle.evaluating.specs.declared.ChartLimits.{ChartLimits}
 use Rattle.evaluating.specs.declared.factors.Factor.{Factor}
 use Rattle.evaluating.specs.declared.factors.Factor.TheVariants as rows
+use Rattle.evaluating.specs.declared.right.Held.{Held}
 use Rattle.evaluating.specs.declared.series.Series.{Series}
 use Rattle.evaluating.specs.declared.series.Series.TheVariants.{Main, Dispersion}
-use Rattle.evaluating.specs.Asked.{Asked}
+use Rattle.evaluating.specs.Asked.{Asked, asked}
 use Rattle.evaluating.specs.Factors.{A2, D3, D4, D2, A3, B3, B4, C4}
 use Rattle.evaluating.specs.Limits.{main_limits, dispersion_limits, limits_of}
 use Rattle.evaluating.specs.Evaluating.{sound, refusals}
@@ -21,6 +22,10 @@ use Rattle.evaluating.specs.Evaluating.{sound, refusals}
 abbrev pub place_of : Series → ℕ
 place_of Main = 0
 place_of Dispersion = 1
+
+-- what a chart beside its values is asked
+abbrev pub asks : Held → Asked
+asks h = asked h.chart h.values.now
 
 -- the number of a factor's row
 abbrev pub row_of : Factor → ℕ

@@ -11,8 +11,9 @@ ghost use Rattle.evaluating.specs.Series.{series_of};
 ghost use Rattle.evaluating.specs.Evaluating.{evaluated, positions_wrong, no_room, series_marks, number_of, evaluate_of};
 ghost use Rattle.evaluating.specs.Steps.{ahead};
 
+use super::right::Held;
 use super::series::Series;
-use super::{Evaluation, limits, marks, series};
+use super::{Evaluation, marks, series};
 use charts::{Chart, INDIVIDUALS, Refusal};
 use rules::Terms;
 
@@ -43,7 +44,8 @@ pub fn evaluate(
 {
     let n = series::points_in(c, Series::Main);
     let k = series::points_in(c, Series::Dispersion);
-    match limits::measure(c, values, main, dispersion) {
+    let held = Held { chart: c, values };
+    match held.measure(main, dispersion) {
         Err(why) => {
             super::clear(main, dispersion, main_marks, dispersion_marks);
             Err(why)

@@ -1,102 +1,91 @@
 // The limits of both series.
-ghost use Rattle.std.specs.Prelude.{◌≡◌, ◌≤◌, false, length};
+ghost use Rattle.std.specs.Prelude.{◌≡◌, ◌≤◌, length};
 ghost use Rattle.laws.specs.Front.{at_front};
-ghost use Rattle.charts.specs.Records.{own_wrong, record_wrong};
-ghost use Rattle.evaluating.specs.Asked.{asked};
 ghost use Rattle.evaluating.specs.Series.{points_in, series_of};
 ghost use Rattle.evaluating.specs.Limits.{factor_for, main_limits, lower_limit, dispersion_limits};
-ghost use Rattle.evaluating.specs.Steps.{row_of, limits_from, measured};
+ghost use Rattle.evaluating.specs.Steps.{row_of, asks, limits_from, measured};
 
 use super::ChartLimits;
 use super::factors::Factor;
 use super::kinds::{Kind, kind_of};
-use super::series::{Series, fill, points_in};
-use charts::{Chart, Refusal};
+use super::right::{Held, Right};
+use super::series::{Series, points_in};
+use charts::Refusal;
 use rules::Limits;
 
-// A figure for individuals, and for subgroups the factor of the kind.
-#[tactic(auto, unfolding(crate::specs::Limits::factor_for, charts::specs::Records::by_kind))]
-pub fn factor_for(c: Chart, individuals: f64, ranges: Factor, deviations: Factor) -> f64
-    requires { own_wrong c ≡ false }
-    ensures { result ≡ factor_for c individuals (row_of ranges) (row_of deviations) }
-{
-    match kind_of(c) {
-        Kind::Individuals => individuals,
-        Kind::Ranges => ranges.of_size(c.size),
-        Kind::Deviations => deviations.of_size(c.size),
+impl Right {
+    // A figure for individuals, and for subgroups the factor of the kind.
+    #[tactic(auto, unfolding(crate::specs::Limits::factor_for, charts::specs::Records::by_kind))]
+    pub fn factor_for(self, individuals: f64, ranges: Factor, deviations: Factor) -> f64
+        ensures { result ≡ factor_for self.chart individuals (row_of ranges) (row_of deviations) }
+    {
+        match kind_of(self.chart) {
+            Kind::Individuals => individuals,
+            Kind::Ranges => ranges.of_size(self.chart.size),
+            Kind::Deviations => deviations.of_size(self.chart.size),
+        }
+    }
+
+    fn main_limits(self, m: f64, d: f64) -> Limits
+        ensures { result ≡ main_limits self.chart m d }
+    {
+        let width = self.factor_for(2.660, Factor::A2, Factor::A3) * d;
+        Limits {
+            ucl: m + width,
+            cl: m,
+            lcl: m - width,
+        }
+    }
+
+    #[tactic(auto, unfolding(crate::specs::Limits::lower_limit, charts::specs::Records::by_kind))]
+    fn lower_limit(self, d: f64) -> f64
+        ensures { result ≡ lower_limit self.chart d }
+    {
+        match kind_of(self.chart) {
+            Kind::Individuals => 0.0,
+            Kind::Ranges => Factor::D3.of_size(self.chart.size) * d,
+            Kind::Deviations => Factor::B3.of_size(self.chart.size) * d,
+        }
+    }
+
+    fn dispersion_limits(self, d: f64) -> Limits
+        ensures { result ≡ dispersion_limits self.chart d }
+    {
+        Limits {
+            ucl: self.factor_for(3.267, Factor::D4, Factor::B4) * d,
+            cl: d,
+            lcl: self.lower_limit(d),
+        }
+    }
+
+    // The limits from the means of both series, unless one is not finite (7). Where they are finite, so are the points: a sum keeps
+    // what is not.
+    #[tactic(auto, unfolding(crate::specs::Steps::limits_from))]
+    pub fn limits_from(self, m: f64, d: f64) -> Result<ChartLimits, Refusal>
+        ensures { result ≡ limits_from self.chart m d }
+    {
+        let main = self.main_limits(m, d);
+        let dispersion = self.dispersion_limits(d);
+        if rules::finite_limits(main) & rules::finite_limits(dispersion) {
+            return Ok(ChartLimits { main, dispersion });
+        }
+        Err(Refusal::Overflow)
     }
 }
 
-fn main_limits(c: Chart, m: f64, d: f64) -> Limits
-    requires { own_wrong c ≡ false }
-    ensures { result ≡ main_limits c m d }
-{
-    let width = factor_for(c, 2.660, Factor::A2, Factor::A3) * d;
-    Limits {
-        ucl: m + width,
-        cl: m,
-        lcl: m - width,
+impl Held<'_> {
+    // Writes both series, and gives their limits, unless one is not finite (7).
+    pub fn measure(self, main: &mut [f64], dispersion: &mut [f64]) -> Result<ChartLimits, Refusal>
+        requires { (points_in self.chart 0 ≤ length main.old) × (points_in self.chart 1 ≤ length dispersion.old) }
+        ensures limits { result ≡ measured (asks self.entry) }
+        ensures main { main.new ≡ at_front (series_of (asks self.entry) 0) main.old }
+        ensures dispersion { dispersion.new ≡ at_front (series_of (asks self.entry) 1) dispersion.old }
+    {
+        let n = points_in(self.chart, Series::Main);
+        let k = points_in(self.chart, Series::Dispersion);
+        self.fill(Series::Main, main);
+        self.fill(Series::Dispersion, dispersion);
+        let right = Right { chart: self.chart };
+        right.limits_from(arith::mean_of(&main[..n]), arith::mean_of(&dispersion[..k]))
     }
-}
-
-#[tactic(auto, unfolding(crate::specs::Limits::lower_limit, charts::specs::Records::by_kind))]
-fn lower_limit(c: Chart, d: f64) -> f64
-    requires { own_wrong c ≡ false }
-    ensures { result ≡ lower_limit c d }
-{
-    match kind_of(c) {
-        Kind::Individuals => 0.0,
-        Kind::Ranges => Factor::D3.of_size(c.size) * d,
-        Kind::Deviations => Factor::B3.of_size(c.size) * d,
-    }
-}
-
-fn dispersion_limits(c: Chart, d: f64) -> Limits
-    requires { own_wrong c ≡ false }
-    ensures { result ≡ dispersion_limits c d }
-{
-    Limits {
-        ucl: factor_for(c, 3.267, Factor::D4, Factor::B4) * d,
-        cl: d,
-        lcl: lower_limit(c, d),
-    }
-}
-
-// The limits from the means of both series, unless one is not finite (7). Where they are finite, so are the points: a sum keeps
-// what is not.
-#[tactic(auto, unfolding(crate::specs::Steps::limits_from))]
-pub fn limits_from(c: Chart, m: f64, d: f64) -> Result<ChartLimits, Refusal>
-    requires { own_wrong c ≡ false }
-    ensures { result ≡ limits_from c m d }
-{
-    let main = main_limits(c, m, d);
-    let dispersion = dispersion_limits(c, d);
-    if rules::finite_limits(main) & rules::finite_limits(dispersion) {
-        return Ok(ChartLimits { main, dispersion });
-    }
-    Err(Refusal::Overflow)
-}
-
-// Writes both series, and gives their limits, unless one is not finite (7).
-pub fn measure(
-    c: Chart,
-    values: &[f64],
-    main: &mut [f64],
-    dispersion: &mut [f64],
-) -> Result<ChartLimits, Refusal>
-    requires { (record_wrong c (length values.now) ≡ false)
-        × (points_in c 0 ≤ length main.old) × (points_in c 1 ≤ length dispersion.old) }
-    ensures limits { result ≡ measured (asked c values.now) }
-    ensures main { main.new ≡ at_front (series_of (asked c values.now) 0) main.old }
-    ensures dispersion { dispersion.new ≡ at_front (series_of (asked c values.now) 1) dispersion.old }
-{
-    let n = points_in(c, Series::Main);
-    let k = points_in(c, Series::Dispersion);
-    fill(c, Series::Main, values, main);
-    fill(c, Series::Dispersion, values, dispersion);
-    limits_from(
-        c,
-        arith::mean_of(&main[..n]),
-        arith::mean_of(&dispersion[..k]),
-    )
 }

@@ -36,7 +36,11 @@ room c =
 
 pub measure-requires : goal.measure-requires
 measure-requires c =
-    let here = (goal.at.measure-requires c).Start in ((fine here).right, (room here).main-room, (room here).dispersion-room)
+    let here = (goal.at.measure-requires c).Start in ((room here).main-room, (room here).dispersion-room)
+
+pub invariant_of-held : goal.invariant_of-held
+invariant_of-held c =
+    record { held = (fine (goal.at.invariant_of-held c).Start).right }
 
 -- ---- not sound
 
