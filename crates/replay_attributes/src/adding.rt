@@ -1,121 +1,57 @@
 // Cases of adding.
-use crate::chart::Chart;
-use crate::reading::{Head, Headed, MOST_ROOM, Sampled, within};
-use crate::{answer, chart, reading};
-use lists::{Fault, Item, Replayed, Small};
+ghost use Rattle.std.specs.Prelude.{◌≡◌, length};
 
-// What adding leaves: the chart, the place just past the samples, and the place past the numbers that were answered; or
-// why there is a sample less.
-#[derive(Clone, Copy)]
-enum Added {
-    All {
-        chart: Chart,
-        next: usize,
-        end: usize,
-    },
-    Fault(Fault),
-}
+use crate::answer;
+use crate::reading::{LONGEST_SLICE, Stored, read_head, read_size};
+use attributes::Chart;
+use groups::TooShort;
+use lists::{Bytes, Case, Fault, Item};
+use numbers::Numbered;
 
-// Adds n samples, which stand one after another from the place `at` on, and writes what is answered from the place `from`
-// of the room on.
-fn add_all(
-    list: &[u8],
-    at: usize,
-    n: usize,
-    first: Chart,
-    counts: &mut [u64],
-    sizes: &mut [u64],
-    units: &mut [f64],
-    room: &mut [u8],
-    from: usize,
-) -> Added {
-    let mut chart = first;
-    let mut next_at = at;
-    let mut end = from;
-    let mut i = 0;
-    while i < n {
-        match reading::read_sample(list, next_at) {
-            Sampled::Read { count, size, next } => {
-                let changed = chart::add(chart, counts, sizes, units, count, size);
-                end = lists::put_number(room, end, changed.number as u64);
-                chart = changed.chart;
-                next_at = next;
-            }
-            Sampled::Fault(fault) => return Added::Fault(fault),
-        }
-        i += 1;
-    }
-    Added::All {
-        chart,
-        next: next_at,
-        end,
-    }
-}
+// The bytes of the longest answer: two slices of 4,100 numbers, each of ten bytes, and some numbers more.
+const LONGEST: usize = 100_000;
 
-// Writes the record's count and both slices, and gives the place past them.
-fn put_left(
-    room: &mut [u8],
-    at: usize,
-    chart: Chart,
+// Writes what making and adding answered, and then the record's count and both slices.
+fn put<S: Stored>(
+    ours: &mut Bytes<LONGEST>,
+    told: &[u8],
+    chart: Chart<S>,
     counts: &[u64],
-    sizes: &[u64],
-    units: &[f64],
-) -> usize {
-    let a = lists::put_number(room, at, chart::count_of(chart) as u64);
-    let b = answer::put_numbers(room, a, counts);
-    match chart {
-        Chart::Parcels(_) => answer::put_numbers(room, b, sizes),
-        Chart::Units(_) => lists::put_floats(room, b, units),
+    sizes: &[S],
+) -> Result<(), TooShort> {
+    for number in told {
+        ours.put(u64::from(*number))?;
     }
+    ours.put(chart.count as u64)?;
+    ours.put_row(counts)?;
+    ours.put_row(sizes)
 }
 
-// Replays a case from the number of its samples on, beside these slices.
-fn replay_samples(
-    list: &[u8],
-    per_unit: bool,
-    head: Head,
-    counts: &mut [u64],
-    sizes: &mut [u64],
-    units: &mut [f64],
-) -> Replayed {
-    let many = match lists::read_small(list, head.next, Item::Samples, 0, MOST_ROOM) {
-        Small::Read(many) => many,
-        Small::Fault(fault) => return Replayed::Fault(fault),
-    };
-    let n = within(many.value as usize);
-    let centre = head.centre;
-    let made = chart::make(per_unit, centre, head.count);
-    let new = made.chart;
-    // two slices of 4,100 numbers, each of ten bytes, and some numbers more
-    let mut room = [0u8; 100_000];
-    let a = lists::put_number(&mut room, 0, made.number as u64);
-    match add_all(list, many.next, n, new, counts, sizes, units, &mut room, a) {
-        Added::All { chart, next, end } => {
-            let last = put_left(&mut room, end, chart, counts, sizes, units);
-            let numbers = 2 + n + within(counts.len()) + within(sizes.len());
-            answer::settle(list, next, numbers, &room, last)
-        }
-        Added::Fault(fault) => Replayed::Fault(fault),
+/// Replays a case of adding, whose tag ends at the place `at`, beside the longest slice of sizes, of which it takes as many as it has.
+pub fn replay<S: Stored>(list: &[u8], at: usize, sizes: &mut [S]) -> Result<Case, Fault>
+    requires { length sizes.old ≡ 4100 }
+{
+    let read = read_head(list, at)?;
+    let head = read.value;
+    let many = lists::read_small(list, read.next, Item::Samples, 0, LONGEST_SLICE as u16)?;
+    let n = usize::from(many.value);
+    let mut counts = [1u64; LONGEST_SLICE];
+    let counts = &mut counts[..head.counts.min(LONGEST_SLICE)];
+    let sizes = &mut sizes[..head.sizes.min(LONGEST_SLICE)];
+    let made = head.made();
+    let mut chart = head.record(made);
+    let mut told = [0u8; LONGEST_SLICE + 1];
+    told[0] = made.number();
+    let mut next = many.next;
+    for i in 0..n {
+        let damaged = lists::read_number(list, next, Item::Value)?;
+        let size = read_size(list, damaged.next)?;
+        next = size.next;
+        let added = chart.add(counts, sizes, damaged.value, size.value);
+        told[i + 1] = added.number();
+        chart = added.unwrap_or(chart);
     }
-}
-
-/// Replays a case of adding, whose tag ends at the place `at`.
-pub fn replay(list: &[u8], per_unit: bool, at: usize) -> Replayed {
-    let head = match reading::read_head(list, at) {
-        Headed::Read(head) => head,
-        Headed::Fault(fault) => return Replayed::Fault(fault),
-    };
-    let mut counts = [1u64; 4100];
-    let mut sizes = [1u64; 4100];
-    let mut units = [reading::LEAST; 4100];
-    let m = within(head.counts);
-    let k = within(head.sizes);
-    replay_samples(
-        list,
-        per_unit,
-        head,
-        &mut counts[0..m],
-        &mut sizes[0..k],
-        &mut units[0..k],
-    )
+    let mut ours = Bytes::new();
+    let put = put(&mut ours, &told[..n + 1], chart, counts, sizes);
+    answer::settle(list, next, 2 + n + counts.len() + sizes.len(), &ours, put)
 }

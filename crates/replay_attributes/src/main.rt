@@ -6,11 +6,11 @@
 
 mod adding;
 mod answer;
-mod chart;
 mod evaluating;
 mod reading;
 
-use lists::{Item, Replayed, Small};
+use lists::{Case, Fault, Item};
+use reading::{LEAST, LONGEST_SLICE};
 use std::io;
 
 // The tags of its cases: adding to a P and to a U chart, evaluating a P and a U chart.
@@ -22,31 +22,21 @@ const P_EVALUATING: u16 = 8;
 
 const U_EVALUATING: u16 = 9;
 
-// Replays the case that begins at the place `at`.
-fn replay_case(list: &[u8], at: usize) -> Replayed {
-    let tag = match lists::read_small(list, at, Item::Tag, P_ADDING, U_EVALUATING) {
-        Small::Read(tag) => tag,
-        Small::Fault(fault) => return Replayed::Fault(fault),
-    };
-    let per_unit = (tag.value == U_ADDING) | (tag.value == U_EVALUATING);
-    if tag.value < P_EVALUATING {
-        return adding::replay(list, per_unit, tag.next);
+// Replays the case that begins at the place `at`. What is added to holds ones in its list's form beforehand.
+fn replay_case(list: &[u8], at: usize) -> Result<Case, Fault> {
+    let tag = lists::read_small(list, at, Item::Tag, P_ADDING, U_EVALUATING)?;
+    match tag.value {
+        P_ADDING => adding::replay(list, tag.next, &mut [1u64; LONGEST_SLICE]),
+        U_ADDING => adding::replay(list, tag.next, &mut [LEAST; LONGEST_SLICE]),
+        P_EVALUATING => evaluating::replay(list, tag.next, &mut [0u64; LONGEST_SLICE]),
+        _ => evaluating::replay(list, tag.next, &mut [0.0f64; LONGEST_SLICE]),
     }
-    evaluating::replay(list, per_unit, tag.next)
-}
-
-// Replays every case of a list.
-fn replay<P: Print>(rt: &P, list: &[u8]) -> io::Result<()> {
-    let mut run = lists::begin(rt, list)?;
-    while run.k < run.cases {
-        run = lists::past(rt, run, replay_case(list, run.at))?;
-    }
-    lists::end(rt, list, run)
 }
 
 fn main(rt: HostRuntime) -> io::Result<()> {
     // one byte more than a list may have, so that a longer one is seen
     let mut bytes = [0u8; 400_001];
     let n = lists::read_input(&rt, &mut bytes)?;
-    replay(&rt, &bytes[0..n])
+    let list = &bytes[..n];
+    lists::replay(&rt, list, |at| replay_case(list, at))
 }

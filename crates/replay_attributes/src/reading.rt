@@ -1,169 +1,127 @@
 // What stands before the answer of an attribute case (oracle/FORMAT.md).
-ghost use Rattle.std.specs.Prelude.{◌≡◌, ◌≤◌, length};
-
-use attributes::Centre;
-use lists::{Fault, Item, Number, Passed, Small};
+use attributes::{Centre, Chart, Refusal, Size};
+use lists::{Fault, Item, Listed, Read};
+use std::marker::PhantomData;
 
 /// The longest slice that a case has.
-pub const MOST_ROOM: u16 = 4100;
+pub const LONGEST_SLICE: usize = 4100;
+
+const MOST_ROOM: u16 = 4100;
 
 /// The smallest f64, whose bits are 1: what an entry of a slice that is lent for writing is beforehand.
 pub const LEAST: f64 = 5.0e-324;
 
-/// A record, the lengths of the two slices beside it, and the place just past them.
+/// A sample's size, which stands in a list as a number.
+pub trait Stored: Size + Listed {
+    /// The size that stands as this number.
+    fn of(number: u64) -> Self;
+}
+
+impl Stored for u64 {
+    fn of(number: u64) -> u64 {
+        number
+    }
+}
+
+/// Units stand as their bits.
+impl Stored for f64 {
+    fn of(number: u64) -> f64 {
+        floats::of_bits(number)
+    }
+}
+
+/// A record, and the lengths of the two slices beside it.
 #[derive(Clone, Copy)]
 pub struct Head {
     pub centre: Centre,
     pub count: usize,
     pub counts: usize,
     pub sizes: usize,
-    pub next: usize,
 }
 
-/// What reading a head finds.
-#[derive(Clone, Copy)]
-pub enum Headed {
-    Read(Head),
-    Fault(Fault),
-}
-
-/// A centre and the place just past it; or why there is none.
-#[derive(Clone, Copy)]
-pub enum Centred {
-    Read { centre: Centre, next: usize },
-    Fault(Fault),
-}
-
-/// A sample, its size as it stands in the list, and the place just past it; or why there is none.
-#[derive(Clone, Copy)]
-pub enum Sampled {
-    Read { count: u64, size: u64, next: usize },
-    Fault(Fault),
-}
-
-/// The length, and no more than the longest slice has.
-pub fn within(length: usize) -> usize
-    ensures { result ≤ 4100 }
-{
-    if (MOST_ROOM as usize) < length {
-        return MOST_ROOM as usize;
-    }
-    length
-}
-
-fn read_centre(list: &[u8], at: usize) -> Centred {
-    match lists::read_small(list, at, Item::Centre, 0, 1) {
-        Small::Read(given) => {
-            if given.value == 0 {
-                return Centred::Read {
-                    centre: Centre::Computed,
-                    next: given.next,
-                };
-            }
-            match lists::read_number(list, given.next, Item::Centre) {
-                Number::Read(bits) => Centred::Read {
-                    centre: Centre::Given(floats::of_bits(bits.value)),
-                    next: bits.next,
-                },
-                Number::Fault(fault) => Centred::Fault(fault),
-            }
+impl Head {
+    /// What making a chart with this centre answers.
+    pub fn made<S: Stored>(self) -> Result<Chart<S>, Refusal> {
+        match self.centre {
+            Centre::Computed => Ok(Chart::new()),
+            Centre::Given(x) => Chart::with_centre(x),
         }
-        Small::Fault(fault) => Centred::Fault(fault),
+    }
+
+    /// The record: what was made, and else one that nothing of ours made, with the count of the head.
+    pub fn record<S: Stored>(self, made: Result<Chart<S>, Refusal>) -> Chart<S> {
+        let none = Chart {
+            centre: self.centre,
+            count: 0,
+            size: PhantomData,
+        };
+        Chart {
+            count: self.count,
+            ..made.unwrap_or(none)
+        }
     }
 }
 
-/// Reads the lengths of as many slices as `out` has room for.
-pub fn read_lengths(list: &[u8], at: usize, out: &mut [usize]) -> Passed {
+fn read_centre(list: &[u8], at: usize) -> Result<Read<Centre>, Fault> {
+    let given = lists::read_small(list, at, Item::Centre, 0, 1)?;
+    if given.value == 0 {
+        return Ok(Read {
+            value: Centre::Computed,
+            next: given.next,
+        });
+    }
+    let bits = lists::read_number(list, given.next, Item::Centre)?;
+    Ok(Read {
+        value: Centre::Given(floats::of_bits(bits.value)),
+        next: bits.next,
+    })
+}
+
+/// Reads the lengths of N slices.
+pub fn read_lengths<const N: usize>(list: &[u8], at: usize) -> Result<Read<[usize; N]>, Fault> {
+    let mut value = [0; N];
     let mut next = at;
-    let mut i = 0;
-    while i < out.len() {
-        match lists::read_small(list, next, Item::Room, 0, MOST_ROOM) {
-            Small::Read(length) => {
-                out[i] = length.value as usize;
-                next = length.next;
-            }
-            Small::Fault(fault) => return Passed::Fault(fault),
-        }
-        i += 1;
+    for length in value.iter_mut() {
+        let read = lists::read_small(list, next, Item::Room, 0, MOST_ROOM)?;
+        *length = usize::from(read.value);
+        next = read.next;
     }
-    Passed::Next(next)
-}
-
-// Reads what stands behind the centre.
-fn read_rest(list: &[u8], at: usize, centre: Centre) -> Headed {
-    let count = match lists::read_number(list, at, Item::Samples) {
-        Number::Read(count) => count,
-        Number::Fault(fault) => return Headed::Fault(fault),
-    };
-    let mut lengths = [0usize; 2];
-    match read_lengths(list, count.next, &mut lengths) {
-        Passed::Next(next) => Headed::Read(Head {
-            centre,
-            count: count.value as usize,
-            counts: lengths[0],
-            sizes: lengths[1],
-            next,
-        }),
-        Passed::Fault(fault) => Headed::Fault(fault),
-    }
+    Ok(Read { value, next })
 }
 
 /// Reads a head at the place `at`.
-pub fn read_head(list: &[u8], at: usize) -> Headed {
-    match read_centre(list, at) {
-        Centred::Read { centre, next } => read_rest(list, next, centre),
-        Centred::Fault(fault) => Headed::Fault(fault),
-    }
-}
-
-/// Reads as many numbers as `out` has room for.
-pub fn read_numbers(list: &[u8], at: usize, out: &mut [u64]) -> Passed {
-    let mut next = at;
-    let mut i = 0;
-    while i < out.len() {
-        match lists::read_number(list, next, Item::Value) {
-            Number::Read(read) => {
-                out[i] = read.value;
-                next = read.next;
-            }
-            Number::Fault(fault) => return Passed::Fault(fault),
-        }
-        i += 1;
-    }
-    Passed::Next(next)
-}
-
-/// Reads the numbers of two slices one after another.
-pub fn read_both(list: &[u8], at: usize, counts: &mut [u64], sizes: &mut [u64]) -> Passed {
-    match read_numbers(list, at, counts) {
-        Passed::Next(next) => read_numbers(list, next, sizes),
-        Passed::Fault(fault) => Passed::Fault(fault),
-    }
-}
-
-/// Reads a sample at the place `at`.
-pub fn read_sample(list: &[u8], at: usize) -> Sampled {
-    let count = match lists::read_number(list, at, Item::Value) {
-        Number::Read(count) => count,
-        Number::Fault(fault) => return Sampled::Fault(fault),
-    };
-    match lists::read_number(list, count.next, Item::Value) {
-        Number::Read(size) => Sampled::Read {
-            count: count.value,
-            size: size.value,
-            next: size.next,
+pub fn read_head(list: &[u8], at: usize) -> Result<Read<Head>, Fault> {
+    let centre = read_centre(list, at)?;
+    let count = lists::read_number(list, centre.next, Item::Samples)?;
+    let lengths = read_lengths::<2>(list, count.next)?;
+    let [counts, sizes] = lengths.value;
+    Ok(Read {
+        value: Head {
+            centre: centre.value,
+            count: count.value as usize,
+            counts,
+            sizes,
         },
-        Number::Fault(fault) => Sampled::Fault(fault),
-    }
+        next: lengths.next,
+    })
 }
 
-/// The f64 of these bits.
-pub fn floats_of(bits: &[u64], out: &mut [f64])
-    requires { length out.old ≡ length bits.now }
-{
-    let mut i = 0;
-    while i < bits.len() {
-        out[i] = floats::of_bits(bits[i]);
-        i += 1;
+/// Reads the size of a sample at the place `at`.
+pub fn read_size<S: Stored>(list: &[u8], at: usize) -> Result<Read<S>, Fault> {
+    let number = lists::read_number(list, at, Item::Value)?;
+    Ok(Read {
+        value: S::of(number.value),
+        next: number.next,
+    })
+}
+
+/// Reads as many sizes as `out` has room for, and gives the place just past them.
+pub fn read_sizes<S: Stored>(list: &[u8], at: usize, out: &mut [S]) -> Result<usize, Fault> {
+    let mut next = at;
+    for size in out.iter_mut() {
+        let read = read_size(list, next)?;
+        *size = read.value;
+        next = read.next;
     }
+    Ok(next)
 }
