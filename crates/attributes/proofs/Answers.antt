@@ -1,17 +1,13 @@
 -- Two answers with one number and the same values are one answer: so a promise on the number and the values fixes the answer.
 -- Assumes nothing.
 use Rattle.std.proofs.Common.{◌≡◌, ℕ, cond, eqb, sym, refl, ap, ◌∙◌, arith}
+use Rattle.std.specs.Prelude.{Result}
+use lib.Ieee.{Float}
+use Rattle.numbers.proofs.Numbers.{Telling, answered-one}
 use Rattle.attributes.specs.declared.Refusal.{Refusal}
 use Rattle.attributes.specs.declared.Refusal.TheVariants as refusing
-use Rattle.attributes.specs.declared.PChart.{PChart}
-use Rattle.attributes.specs.declared.PChanged.{PChanged}
-use Rattle.attributes.specs.declared.PChanged.TheVariants as p_changing
-use Rattle.attributes.specs.declared.UChart.{UChart}
-use Rattle.attributes.specs.declared.UChanged.{UChanged}
-use Rattle.attributes.specs.declared.UChanged.TheVariants as u_changing
-use Rattle.attributes.specs.declared.Evaluated.{Evaluated}
-use Rattle.attributes.specs.declared.Evaluated.TheVariants as evaluating
-use Rattle.attributes.specs.Records.{number, changed_p, changed_u}
+use Rattle.attributes.specs.declared.Chart.{Chart}
+use Rattle.attributes.specs.Records.{number, changed}
 use Rattle.attributes.specs.Evaluating.{evaluated}
 
 -- ---- refusals
@@ -58,20 +54,11 @@ number-one a b e = sym (named-number a) ∙ ap named e ∙ named-number b
 
 -- ---- answers
 
-pub changed_p-one : (before : PChart) (a b : PChanged) → changed_p before a ≡ changed_p before b → a ≡ b
-changed_p-one before (p_changing.Done c) (p_changing.Done d) e = ap p_changing.Done (ap (λ p. p.1) e)
-changed_p-one before (p_changing.Done c) (p_changing.Refused w) e = absurd (number-some w (sym (ap (λ p. p.0) e)))
-changed_p-one before (p_changing.Refused v) (p_changing.Done d) e = absurd (number-some v (ap (λ p. p.0) e))
-changed_p-one before (p_changing.Refused v) (p_changing.Refused w) e = ap p_changing.Refused (number-one v w (ap (λ p. p.0) e))
+tells : Telling number
+tells = record { not_done = λ why e. number-some why (sym e); one = number-one }
 
-pub changed_u-one : (before : UChart) (a b : UChanged) → changed_u before a ≡ changed_u before b → a ≡ b
-changed_u-one before (u_changing.Done c) (u_changing.Done d) e = ap u_changing.Done (ap (λ p. p.1) e)
-changed_u-one before (u_changing.Done c) (u_changing.Refused w) e = absurd (number-some w (sym (ap (λ p. p.0) e)))
-changed_u-one before (u_changing.Refused v) (u_changing.Done d) e = absurd (number-some v (ap (λ p. p.0) e))
-changed_u-one before (u_changing.Refused v) (u_changing.Refused w) e = ap u_changing.Refused (number-one v w (ap (λ p. p.0) e))
+pub changed-one : {S : Type 0} (before : Chart S) (a b : Result (Chart S) Refusal) → changed before a ≡ changed before b → a ≡ b
+changed-one before = answered-one tells _ _ (λ c d e. e)
 
-pub evaluated-one : (a b : Evaluated) → evaluated a ≡ evaluated b → a ≡ b
-evaluated-one (evaluating.Done x) (evaluating.Done y) e = ap evaluating.Done (ap (λ p. p.1) e)
-evaluated-one (evaluating.Done x) (evaluating.Refused w) e = absurd (number-some w (sym (ap (λ p. p.0) e)))
-evaluated-one (evaluating.Refused v) (evaluating.Done y) e = absurd (number-some v (ap (λ p. p.0) e))
-evaluated-one (evaluating.Refused v) (evaluating.Refused w) e = ap evaluating.Refused (number-one v w (ap (λ p. p.0) e))
+pub evaluated-one : (a b : Result Float Refusal) → evaluated a ≡ evaluated b → a ≡ b
+evaluated-one = answered-one tells _ _ (λ x y e. e)

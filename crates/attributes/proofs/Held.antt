@@ -1,6 +1,6 @@
 -- What a record tells that is not wrong, and the tests ahead of the work once they are passed. Assumes nothing.
 use Rattle.std.proofs.Common.{◌≡◌, ℕ, ◌<◌, ◌≤◌, Bool, true, false, cond, not, ◌||◌, eqb, ltb, leb, List, ◌∷◌, length, get_or, take, sym, refl, ap, arith, length-take-le, get_or-take, ltb-false, eqb-true, leb-false}
-use borrow.Author.Tests.{not-false, eqb-false}
+use borrow.Author.Tests.{not-false, not-true, eqb-false}
 use lib.Ieee.{Float, nan}
 use Rattle.laws.specs.Bools.{every}
 use Rattle.laws.specs.Refusals.{first_of}
@@ -9,12 +9,13 @@ use Rattle.laws.proofs.Judged.{every-at}
 use Rattle.laws.proofs.Refusals.{Passed, accepted, were-passed}
 use Rattle.attributes.specs.declared.Centre.{Centre}
 use Rattle.attributes.specs.declared.Centre.TheVariants.{Computed, Given}
-use Rattle.attributes.specs.declared.PChart.{PChart}
-use Rattle.attributes.specs.declared.UChart.{UChart}
-use Rattle.attributes.specs.declared.checks.Tested.{Tested}
-use Rattle.attributes.specs.Records.{record_wrong, record_wrong_p, record_wrong_u, too_large, sample_p, sample_u, full}
-use Rattle.attributes.specs.Evaluating.{stored_right_p, stored_right_u, wrong_p, wrong_u, total_of, centre_of}
-use Rattle.attributes.specs.Steps.{tested, adding, ahead, Small, SmallTo}
+use Rattle.attributes.specs.declared.Chart.{Chart}
+use Rattle.std.specs.Prelude.{Result}
+use Rattle.attributes.specs.declared.Refusal.{Refusal}
+use Rattle.attributes.specs.Kinds.{Kind, too_large, sample_p, sample_u, total_of, proportions, rates}
+use Rattle.attributes.specs.Records.{PChart, UChart, record_wrong, chart_wrong, full}
+use Rattle.attributes.specs.Evaluating.{stored_right, wrong, wrong_p, wrong_u, centre_of}
+use Rattle.attributes.specs.Steps.{tested, adding, ahead, Small, SmallTo, FineTo}
 use Rattle.attributes.proofs.Totalling.{Exact, total-exact}
 
 -- ---- the record beside its slices
@@ -53,7 +54,7 @@ own n rest = by (eqb n 0) refl
     by true q h = h
     by false q h = absurd (eqb-false n 0 q h)
 
-pub fits : (wrong : Bool) (sample : Tested) (count counts sizes : ℕ) → first_of (adding wrong sample count counts sizes) 0 ≡ 0 → Fits count counts sizes
+pub fits : (wrong : Bool) (sample : Result (Unit {0}) Refusal) (count counts sizes : ℕ) → first_of (adding wrong sample count counts sizes) 0 ≡ 0 → Fits count counts sizes
 fits wrong sample count counts sizes e =
     let fourteen = accepted wrong 14 _ (omega arith) e in
     let five = accepted (leb 4096 count) 5 _ (omega arith) (own (tested sample) (full count counts sizes) fourteen.1) in
@@ -74,63 +75,72 @@ pub given-centre : (k : Centre) (p x : Float) → k ≡ Given p → p ≡ centre
 unfolding centre_of
 given-centre k p x e = sym (ap (λ (j : Centre). centre_of j x) e)
 
--- ---- a record that evaluating takes
+-- ---- the samples of a record that evaluating takes
 
-small-front : (n : ℕ) (l : List ℕ) → n ≤ length l → SmallTo n l → Small (take n l)
+pub small-front : (n : ℕ) (l : List ℕ) → n ≤ length l → SmallTo n l → Small (take n l)
 small-front n l h each i k =
     let i-in : i < n = omega (arith, length-take-le n l h) in
     rw (get_or-take n l i 0 i-in) (each i i-in)
 
-module _ (c : PChart) (counts sizes : List ℕ) (h : wrong_p c counts sizes ≡ false) where
-  pub held-P : Held c.count (length counts) (length sizes)
-  unfolding wrong_p
-  held-P = held _ c.count (length counts) (length sizes) (or_left _ _ h)
+pub fine-front : {S : Type 0} (k : Kind S) (n : ℕ) (l : List S) → n ≤ length l → FineTo k n l → FineTo k (length (take n l)) (take n l)
+fine-front k n l h each i q =
+    let i-in : i < n = omega (arith, length-take-le n l h) in
+    rw (get_or-take n l i k.nothing i-in) (each i i-in)
 
-  sample-P : (i : ℕ) → i < c.count → (get_or counts i 0 ≤ 4294967295) × (get_or sizes i 0 ≤ 4294967295)
-  unfolding wrong_p stored_right_p
+-- a size that a P chart has
+pub inspected : (n : ℕ) → not (too_large n) ≡ true → n ≤ 4294967295
+inspected n h = ltb-false 4294967295 n (not-true (too_large n) h)
+
+module _ (count : ℕ) (counts sizes : List ℕ) (h : stored_right proportions count counts sizes ≡ true) where
+  sample-P : (i : ℕ) → i < count → (too_large (get_or counts i 0) ≡ false) × (too_large (get_or sizes i 0) ≡ false)
+  unfolding stored_right
   sample-P i k =
       let d = get_or counts i 0 in
       let n = get_or sizes i 0 in
-      let right = every-at _ c.count (not-false _ (or_right (record_wrong_p c (length counts) (length sizes)) _ h)) i k in
+      let right = every-at _ count h i k in
       let small = (accepted (too_large d || too_large n) 16 _ (omega arith) (eqb-true (first_of (sample_p d n) 0) 0 right)).0 in
-      (ltb-false 4294967295 d (or_left (too_large d) (too_large n) small), ltb-false 4294967295 n (or_right (too_large d) (too_large n) small))
+      (or_left (too_large d) (too_large n) small, or_right (too_large d) (too_large n) small)
 
-  pub counts-fit-P : SmallTo c.count counts
-  counts-fit-P i k = (sample-P i k).0
+  pub counts-fit-P : SmallTo count counts
+  counts-fit-P i k = ltb-false 4294967295 _ (sample-P i k).0
 
-  pub sizes-fit-P : SmallTo c.count sizes
-  sizes-fit-P i k = (sample-P i k).1
+  pub sizes-fit-P : FineTo proportions count sizes
+  sizes-fit-P i k = ap not (sample-P i k).1
 
-  pub small-counts-P : Small (take c.count counts)
-  small-counts-P = small-front c.count counts held-P.in-counts counts-fit-P
-
-  pub small-sizes-P : Small (take c.count sizes)
-  small-sizes-P = small-front c.count sizes held-P.in-sizes sizes-fit-P
-
-  -- so no rounding has happened ahead of the centre's division
-  pub totals-exact-P : Exact (total_of (take c.count counts)) × Exact (total_of (take c.count sizes))
-  totals-exact-P = (
-    total-exact (take c.count counts) (omega (arith, length-take-le c.count counts held-P.in-counts, held-P.few)) small-counts-P,
-    total-exact (take c.count sizes) (omega (arith, length-take-le c.count sizes held-P.in-sizes, held-P.few)) small-sizes-P,
-  )
-
-module _ (c : UChart) (counts : List ℕ) (sizes : List Float) (h : wrong_u c counts sizes ≡ false) where
-  pub held-U : Held c.count (length counts) (length sizes)
-  unfolding wrong_u
-  held-U = held _ c.count (length counts) (length sizes) (or_left _ _ h)
-
-  pub counts-fit-U : SmallTo c.count counts
-  unfolding wrong_u stored_right_u
+module _ (count : ℕ) (counts : List ℕ) (sizes : List Float) (h : stored_right rates count counts sizes ≡ true) where
+  pub counts-fit-U : SmallTo count counts
+  unfolding stored_right
   counts-fit-U i k =
       let d = get_or counts i 0 in
-      let right = every-at _ c.count (not-false _ (or_right (record_wrong_u c (length counts) (length sizes)) _ h)) i k in
-      ltb-false 4294967295 d (accepted (too_large d) 16 _ (omega arith) (eqb-true (first_of (sample_u d (get_or sizes i nan)) 0) 0 right)).0
+      ltb-false 4294967295 d (accepted (too_large d) 16 _ (omega arith) (eqb-true (first_of (sample_u d (get_or sizes i nan)) 0) 0 (every-at _ count h i k))).0
 
-  pub small-counts-U : Small (take c.count counts)
-  small-counts-U = small-front c.count counts held-U.in-counts counts-fit-U
+-- ---- no rounding has happened ahead of the centre's division
 
-  pub total-exact-U : Exact (total_of (take c.count counts))
-  total-exact-U = total-exact (take c.count counts) (omega (arith, length-take-le c.count counts held-U.in-counts, held-U.few)) small-counts-U
+module _ {S : Type 0} (k : Kind S) (c : Chart S) (counts : List ℕ) (sizes : List S) (h : wrong k c counts sizes ≡ false) where
+  held-by : Held c.count (length counts) (length sizes)
+  unfolding wrong
+  held-by = held _ c.count (length counts) (length sizes) (or_left _ _ h)
+
+  right-by : stored_right k c.count counts sizes ≡ true
+  unfolding wrong
+  right-by = not-false _ (or_right (chart_wrong k c (length counts) (length sizes)) _ h)
+
+exact-front : (n : ℕ) (l : List ℕ) → n ≤ 4096 → n ≤ length l → SmallTo n l → Exact (total_of (take n l))
+exact-front n l few room each = total-exact (take n l) (omega (arith, length-take-le n l room, few)) (small-front n l room each)
+
+pub totals-exact-P : (c : PChart) (counts sizes : List ℕ) → wrong_p c counts sizes ≡ false
+    → Exact (total_of (take c.count counts)) × Exact (total_of (take c.count sizes))
+totals-exact-P c counts sizes h =
+    let x = held-by proportions c counts sizes h in
+    let right = right-by proportions c counts sizes h in (
+      exact-front c.count counts x.few x.in-counts (counts-fit-P c.count counts sizes right),
+      exact-front c.count sizes x.few x.in-sizes (λ i k. inspected _ (sizes-fit-P c.count counts sizes right i k)),
+    )
+
+pub total-exact-U : (c : UChart) (counts : List ℕ) (sizes : List Float) → wrong_u c counts sizes ≡ false → Exact (total_of (take c.count counts))
+total-exact-U c counts sizes h =
+    let x = held-by rates c counts sizes h in
+    exact-front c.count counts x.few x.in-counts (counts-fit-U c.count counts sizes (right-by rates c counts sizes h))
 
 -- ---- evaluating: what 14, 8 and 6 leave
 

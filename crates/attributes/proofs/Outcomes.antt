@@ -1,13 +1,14 @@
 -- Evaluating, of either chart: each case of the answer, and the slices. Assumes nothing.
-use Rattle.std.proofs.Common.{◌≡◌, ℕ, ◌≤◌, Bool, true, false, cond, not, eqb, List, [], ◌∷◌, length, get_or, take, drop, sym, refl, ap, ◌∙◌, ap₂, arith, length-append, length-drop, length-take-le, take_at, ne_eqb, eqb-true}
+use Rattle.std.proofs.Common.{◌≡◌, ℕ, ◌≤◌, Bool, true, false, cond, not, eqb, List, [], ◌∷◌, length, get_or, take, drop, sym, refl, ap, ◌∙◌, ap₂, arith, length-append, length-drop, length-take-le, take_at, ◌++◌, ne_eqb, eqb-true}
 use borrow.Author.Tests.{not-true}
+use lib.Seq.{drop_at}
 use lib.Ieee.{Float, nan, binary64, div}
 use Rattle.laws.specs.Bools.{every}
 use Rattle.laws.specs.Refusals.{first_of}
 use Rattle.laws.specs.Lists.{tabulate}
 use Rattle.laws.specs.Front.{at_front, lent_after}
 use Rattle.laws.proofs.Lists.{length-tabulate, get_d_tabulate, same-tabulate}
-use Rattle.laws.proofs.LentAfter.{slice_kept, slice-same, front-over, slice_over}
+use Rattle.laws.proofs.LentAfter.{slice_kept, slice-same, slice_over}
 use Rattle.laws.proofs.Refusals.{passed, refused, none-applies, first-append, first_else, first-such}
 use Rattle.floats.specs.Values.{plus_zero}
 use Rattle.points.specs.Points.{Plot, sound, uppers, lowers, outs, zs, has_zs}
@@ -16,8 +17,7 @@ use Rattle.points.specs.Steps.{settled}
 use Rattle.points.proofs.Filled.{column-length}
 use Rattle.points.proofs.Plotting.{none-shorter, decided}
 use Rattle.attributes.specs.declared.Refusal.{Refusal}
-use Rattle.attributes.specs.declared.checks.Tested.{Tested}
-use Rattle.attributes.specs.declared.checks.Tested.TheVariants as testing
+use Rattle.std.specs.Prelude.{Result, Err}
 use Rattle.attributes.specs.Records.{number}
 use Rattle.attributes.specs.Evaluating.{sigma_of, answer_for, values_of, sigmas_of, plot_of, refusals}
 use Rattle.attributes.specs.Steps.{tested, ahead, variances_of, roots_of}
@@ -40,7 +40,7 @@ module _ (wrong : Bool) (count : ℕ) (short : Bool) (g : Plot) where
 
   -- ---- refused ahead of 7
 
-  module _ {why : Refusal} {t : Tested} (is : t ≡ testing.Refused why) (found : tested t ≡ first_of (ahead wrong count short) 0) where
+  module _ {why : Refusal} {t : Result (Unit {0}) Refusal} (is : t ≡ Err why) (found : tested t ≡ first_of (ahead wrong count short) 0) where
     e : first_of (ahead wrong count short) 0 ≡ number why
     e = sym found ∙ ap tested is
 
@@ -76,21 +76,21 @@ module _ (wrong : Bool) (count : ℕ) (short : Bool) (g : Plot) where
 -- ---- the points of samples whose sizes stand in front of the slice of upper limits
 
 -- variances, and their roots in their place
-pub in-two-steps : (variance : Float) (n : ℕ) (old : List Float) {between now : List Float} → n ≤ length old
-    → between ≡ at_front (variances_of variance (take n old)) old → now ≡ at_front (roots_of (take n between)) between
-    → now ≡ at_front (sigmas_of variance (take n old)) old
-in-two-steps variance n old {between} h e f =
+pub in-two-steps : (variance : Float) (n : ℕ) (old : List Float) {vs now : List Float} → n ≤ length old
+    → vs ≡ variances_of variance (take n old) → now ≡ roots_of (take n (vs ++ drop n old))
+    → now ++ drop n (vs ++ drop n old) ≡ at_front (sigmas_of variance (take n old)) old
+in-two-steps variance n old {vs} {now} h e f =
     let sizes = take n old in
-    let vs = variances_of variance sizes in
+    let made = variances_of variance sizes in
     let long = length-tabulate (λ i. div binary64 variance (get_or sizes i nan)) (length sizes) in
-    let front : take n between ≡ vs = ap (take n) e ∙ take_at vs (drop (length vs) old) n (long ∙ length-take-le n old h) in
-    let roots : roots_of vs ≡ sigmas_of variance sizes =
-    ap (tabulate (λ i. sigma_of (get_or vs i nan))) long
-    ∙ same-tabulate (λ i. sigma_of (get_or vs i nan)) (λ i. sigma_of (div binary64 variance (get_or sizes i nan))) (length sizes)
+    let many : length vs ≡ n = ap length e ∙ long ∙ length-take-le n old h in
+    let roots : roots_of made ≡ sigmas_of variance sizes =
+    ap (tabulate (λ i. sigma_of (get_or made i nan))) long
+    ∙ same-tabulate (λ i. sigma_of (get_or made i nan)) (λ i. sigma_of (div binary64 variance (get_or sizes i nan))) (length sizes)
     (λ k q. ap sigma_of (get_d_tabulate (λ i. div binary64 variance (get_or sizes i nan)) (length sizes) k nan q)) in
-    f
-    ∙ ap₂ at_front (ap roots_of front ∙ roots) e
-    ∙ front-over (sigmas_of variance sizes) vs old (long ∙ sym (length-tabulate (λ i. sigma_of (div binary64 variance (get_or sizes i nan))) (length sizes)))
+    ap₂ ◌++◌ (f ∙ ap roots_of (take_at vs (drop n old) n many ∙ e) ∙ roots)
+    (drop_at vs (drop n old) n many
+    ∙ ap (λ (k : ℕ). drop k old) (sym (length-tabulate (λ i. sigma_of (div binary64 variance (get_or sizes i nan))) (length sizes) ∙ length-take-le n old h)))
 
 module _ (cl variance : Float) (counts : List ℕ) (n : ℕ) (values₀ ucl₀ : List Float) (in-values : n ≤ length values₀) (in-ucl : n ≤ length ucl₀)
     {values ucl : List Float} (v : values ≡ at_front (values_of counts (take n ucl₀)) values₀) (s : ucl ≡ at_front (sigmas_of variance (take n ucl₀)) ucl₀) where

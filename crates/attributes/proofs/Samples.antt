@@ -7,7 +7,7 @@ use lib.Dec.{eqb-suc-zero}
 use lib.Ieee.{Float}
 use Rattle.laws.specs.Refusals.{first_of}
 use Rattle.laws.proofs.Judged.{Judged, judged-next}
-use Rattle.attributes.specs.Records.{rate_allowed, too_large, sample_p, sample_u}
+use Rattle.attributes.specs.Kinds.{rate_allowed, too_large, sample_p, sample_u}
 use Rattle.attributes.specs.Evaluating.{right}
 
 -- ---- a sample's own tests, one after the other

@@ -1,19 +1,19 @@
 -- The records of the P and the U chart, and the calls that make one and add a sample (02, R-2). Definitions only.
-use Rattle.std.specs.Prelude.{ℕ, ◌+◌, Bool, false, cond, not, ◌&&◌, ◌||◌, List, [], ◌∷◌, ◌++◌, ◌==◌, nat_le, nat_lt, slice_set, Float}
-use Rattle.std.specs.Float.Ieee.{lt}
+use Rattle.std.specs.Prelude.{ℕ, ◌+◌, Bool, false, cond, not, ◌||◌, List, [], ◌∷◌, ◌++◌, ◌==◌, nat_le, nat_lt, slice_set, Float, Result}
 use Rattle.laws.specs.Refusals.{first_of, each}
-use Rattle.floats.specs.Finite.{finite}
-use Rattle.floats.specs.Values.{plus_zero, decimal}
+use Rattle.numbers.specs.Numbers.{answered}
 use Rattle.attributes.specs.declared.Refusal.{Refusal}
 use Rattle.attributes.specs.declared.Refusal.TheVariants as refusing
 use Rattle.attributes.specs.declared.Centre.{Centre}
 use Rattle.attributes.specs.declared.Centre.TheVariants.{Computed, Given}
-use Rattle.attributes.specs.declared.PChart.{PChart}
-use Rattle.attributes.specs.declared.PChanged.{PChanged}
-use Rattle.attributes.specs.declared.PChanged.TheVariants as p_changing
-use Rattle.attributes.specs.declared.UChart.{UChart}
-use Rattle.attributes.specs.declared.UChanged.{UChanged}
-use Rattle.attributes.specs.declared.UChanged.TheVariants as u_changing
+use Rattle.attributes.specs.declared.Chart.{Chart}
+use Rattle.attributes.specs.Kinds.{Kind, proportions, rates}
+
+abbrev pub PChart : Type 0
+PChart = Chart ℕ
+
+abbrev pub UChart : Type 0
+UChart = Chart Float
 
 -- ---- the number of each refusal, and the number and the record that each answer stands for
 
@@ -30,36 +30,29 @@ number refusing.Units = 19
 number refusing.Centre = 20
 
 -- "A refusal gives back the record unchanged" (01, Order)
-abbrev pub changed_p : PChart → PChanged → ℕ × PChart
-changed_p before (p_changing.Done c) = (0, c)
-changed_p before (p_changing.Refused why) = (number why, before)
-
-abbrev pub changed_u : UChart → UChanged → ℕ × UChart
-changed_u before (u_changing.Done c) = (0, c)
-changed_u before (u_changing.Refused why) = (number why, before)
+abbrev pub changed : {S : Type 0} → Chart S → Result (Chart S) Refusal → ℕ × Chart S
+changed before = answered number (λ c. c) before
 
 -- ---- "making: 20 centre not allowed"
 
--- "finite and strictly inside (0, 1)" (`check_proportion_standard`)
-abbrev pub proportion_allowed : Float → Bool
-proportion_allowed p = finite p && lt plus_zero p && lt p (decimal 1 10)
-
--- "finite and strictly positive" (`check_rate_standard`)
-abbrev pub rate_allowed : Float → Bool
-rate_allowed u = finite u && lt plus_zero u
-
 -- with no sample yet, and a centre to be computed: what a refused one stands for too
+abbrev pub new_chart : {S : Type 0} → Chart S
+new_chart = record { centre = Computed; count = 0; size = record {} }
+
 abbrev pub new_p : PChart
-new_p = record { centre = Computed; count = 0 }
+new_p = new_chart
 
 abbrev pub new_u : UChart
-new_u = record { centre = Computed; count = 0 }
+new_u = new_chart
 
-unfoldable pub with_centre_p : Float → ℕ × PChart
-with_centre_p p = first_of ((not (proportion_allowed p), (20, new_p)) ∷ []) (0, record { centre = Given p; count = 0 })
+unfoldable pub with_centre : {S : Type 0} → Kind S → Float → ℕ × Chart S
+with_centre k x = first_of ((not (k.allowed x), (20, new_chart)) ∷ []) (0, record { centre = Given x; count = 0; size = record {} })
 
-unfoldable pub with_centre_u : Float → ℕ × UChart
-with_centre_u u = first_of ((not (rate_allowed u), (20, new_u)) ∷ []) (0, record { centre = Given u; count = 0 })
+abbrev pub with_centre_p : Float → ℕ × PChart
+with_centre_p = with_centre proportions
+
+abbrev pub with_centre_u : Float → ℕ × UChart
+with_centre_u = with_centre rates
 
 -- ---- 14: "a centre not allowed, a count over 4,096 or over its slices". The lengths are those of the slices of counts and of sizes.
 
@@ -71,23 +64,8 @@ centre_wrong allowed (Given x) = not (allowed x)
 unfoldable pub record_wrong : Bool → ℕ → ℕ → ℕ → Bool
 record_wrong centre count counts sizes = centre || nat_lt 4096 count || nat_lt counts count || nat_lt sizes count
 
-abbrev pub record_wrong_p : PChart → ℕ → ℕ → Bool
-record_wrong_p c counts sizes = record_wrong (centre_wrong proportion_allowed c.centre) c.count counts sizes
-
-abbrev pub record_wrong_u : UChart → ℕ → ℕ → Bool
-record_wrong_u c counts sizes = record_wrong (centre_wrong rate_allowed c.centre) c.count counts sizes
-
--- ---- a sample: "16 count too large, 17 no sample size, 18 more damaged than inspected, 19 units not finite and above zero"
-
--- "Counts are at most 4,294,967,295"
-abbrev pub too_large : ℕ → Bool
-too_large count = nat_lt 4294967295 count
-
-abbrev pub sample_p : ℕ → ℕ → List (Bool × ℕ)
-sample_p damaged inspected = (too_large damaged || too_large inspected, 16) ∷ ((inspected == 0), 17) ∷ (nat_lt inspected damaged, 18) ∷ []
-
-abbrev pub sample_u : ℕ → Float → List (Bool × ℕ)
-sample_u damaged units = (too_large damaged, 16) ∷ (not (rate_allowed units), 19) ∷ []
+abbrev pub chart_wrong : {S : Type 0} → Kind S → Chart S → ℕ → ℕ → Bool
+chart_wrong k c counts sizes = record_wrong (centre_wrong k.allowed c.centre) c.count counts sizes
 
 -- ---- "adding: 14, 16 .., 17 .., 18 .., 19 .., 5, 6"
 
@@ -102,15 +80,19 @@ add_refusals wrong sample count counts sizes = (wrong, 14) ∷ sample ++ full co
 abbrev pub add_of : {A : Type 0} → List (Bool × ℕ) → A → A → ℕ × A
 add_of refusals before after = first_of (each (λ n. (n, before)) refusals) (0, after)
 
-unfoldable pub add_p : PChart → ℕ → ℕ → ℕ → ℕ → ℕ × PChart
-add_p c counts sizes damaged inspected =
-    add_of (add_refusals (record_wrong_p c counts sizes) (sample_p damaged inspected) c.count counts sizes)
-    c (record { centre = c.centre; count = c.count + 1 })
+-- one sample more
+abbrev pub grown : {S : Type 0} → Chart S → Chart S
+grown c = record { centre = c.centre; count = c.count + 1; size = c.size }
 
-unfoldable pub add_u : UChart → ℕ → ℕ → ℕ → Float → ℕ × UChart
-add_u c counts sizes damaged units =
-    add_of (add_refusals (record_wrong_u c counts sizes) (sample_u damaged units) c.count counts sizes)
-    c (record { centre = c.centre; count = c.count + 1 })
+unfoldable pub add : {S : Type 0} → Kind S → Chart S → ℕ → ℕ → ℕ → S → ℕ × Chart S
+add k c counts sizes damaged size =
+    add_of (add_refusals (chart_wrong k c counts sizes) (k.sample damaged size) c.count counts sizes) c (grown c)
+
+abbrev pub add_p : PChart → ℕ → ℕ → ℕ → ℕ → ℕ × PChart
+add_p = add proportions
+
+abbrev pub add_u : UChart → ℕ → ℕ → ℕ → Float → ℕ × UChart
+add_u = add rates
 
 -- A slice of samples after the number n was answered: a sample that was taken stands at place count. A refusal leaves it as it came.
 unfoldable pub kept_after : {A : Type 0} → ℕ → ℕ → A → List A → List A

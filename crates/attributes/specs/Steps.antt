@@ -1,20 +1,27 @@
 -- What the code's inner steps answer. A reader need not believe it: no contract of a public function cites it. Definitions only.
-use Rattle.std.specs.Prelude.{ℕ, ◌<◌, ◌≤◌, Bool, not, List, [], ◌∷◌, length, ◌==◌, slice_index, slice_index_or, Float}
+use Rattle.std.specs.Prelude.{◌≡◌, Result, ℕ, ◌<◌, ◌≤◌, Bool, true, not, List, [], ◌∷◌, length, ◌==◌, slice_index, slice_index_or, Float}
 use Rattle.std.specs.Float.{nan, binary64}
 use Rattle.std.specs.Float.Ieee.{div}
 use Rattle.laws.specs.Lists.{tabulate}
-use Rattle.attributes.specs.declared.checks.Tested.{Tested}
-use Rattle.attributes.specs.declared.checks.Tested.TheVariants as testing
+use Rattle.numbers.specs.Numbers.{numbered}
+use Rattle.points.specs.Plotting as points
+use Rattle.points.specs.declared.Refusal as plot_refused
+use Rattle.attributes.specs.declared.Refusal.{Refusal}
+use Rattle.attributes.specs.declared.Chart.{Chart}
+use Rattle.attributes.specs.Kinds.{Kind}
 use Rattle.attributes.specs.Records.{number, full}
 use Rattle.attributes.specs.Evaluating.{sigma_of}
 
 -- the number of what tests found
-abbrev pub tested : Tested → ℕ
-tested testing.Passed = 0
-tested (testing.Refused why) = number why
+abbrev pub tested : Result (Unit {0}) Refusal → ℕ
+tested = numbered number
+
+-- a refusal of plotting keeps its number
+abbrev pub plotting : plot_refused.Refusal → Refusal → Type 0
+plotting why said = number said ≡ points.number why
 
 -- adding, where it is known what the sample's own tests found
-abbrev pub adding : Bool → Tested → ℕ → ℕ → ℕ → List (Bool × ℕ)
+abbrev pub adding : Bool → Result (Unit {0}) Refusal → ℕ → ℕ → ℕ → List (Bool × ℕ)
 adding wrong sample count counts sizes = (wrong, 14) ∷ (not (tested sample == 0), tested sample) ∷ full count counts sizes
 
 -- evaluating: the refusals ahead of the arithmetic
@@ -31,6 +38,18 @@ roots_of variances = tabulate (λ i. sigma_of (slice_index_or variances i nan)) 
 -- each of the first n counts is at most 4,294,967,295
 abbrev pub SmallTo : ℕ → List ℕ → Type 0
 SmallTo n counts = (i : ℕ) → i < n → slice_index counts i ≤ 4294967295
+
+-- each of the first n sizes may be that of a sample
+abbrev pub FineTo : {S : Type 0} → Kind S → ℕ → List S → Type 0
+FineTo k n sizes = (i : ℕ) → i < n → k.small (slice_index_or sizes i k.nothing) ≡ true
+
+-- what a record tells of its slices that is not wrong
+pub record Fine {S : Type 0} (k : Kind S) (c : Chart S) (counts : List ℕ) (sizes : List S) : Type 0 where
+  pub few : c.count ≤ 4096
+  pub in-counts : c.count ≤ length counts
+  pub in-sizes : c.count ≤ length sizes
+  pub counts-fit : SmallTo c.count counts
+  pub sizes-fit : FineTo k c.count sizes
 
 abbrev pub Small : List ℕ → Type 0
 Small counts = SmallTo (length counts) counts

@@ -9,13 +9,6 @@ use super::Refusal;
 // The largest count that is taken: the total of 4,096 is then exact as an f64.
 pub const MOST: u64 = 4294967295;
 
-// What tests find.
-#[derive(Clone, Copy)]
-pub enum Tested {
-    Passed,
-    Refused(Refusal),
-}
-
 // Whether the record is no chart, by whether its centre is not allowed, its count, and the lengths of its slices.
 pub fn record_wrong(centre: bool, count: usize, counts: usize, sizes: usize) -> bool
     ensures { result ≡ record_wrong centre count counts sizes }
@@ -24,38 +17,40 @@ pub fn record_wrong(centre: bool, count: usize, counts: usize, sizes: usize) -> 
 }
 
 // 14, what the sample's own tests found, 5 and 6.
-pub fn adding(wrong: bool, sample: Tested, count: usize, counts: usize, sizes: usize) -> Tested
+pub fn adding(
+    wrong: bool,
+    sample: Result<(), Refusal>,
+    count: usize,
+    counts: usize,
+    sizes: usize,
+) -> Result<(), Refusal>
     ensures { tested result ≡ first_of (adding wrong sample count counts sizes) 0 }
 {
     if wrong {
-        return Tested::Refused(Refusal::Record);
+        return Err(Refusal::Record);
     }
-    match sample {
-        Tested::Refused(why) => Tested::Refused(why),
-        Tested::Passed => {
-            if 4096 <= count {
-                return Tested::Refused(Refusal::Full);
-            }
-            if (counts <= count) | (sizes <= count) {
-                return Tested::Refused(Refusal::TooShort);
-            }
-            Tested::Passed
-        }
+    sample?;
+    if 4096 <= count {
+        return Err(Refusal::Full);
     }
+    if (counts <= count) | (sizes <= count) {
+        return Err(Refusal::TooShort);
+    }
+    Ok(())
 }
 
 // 14, 8 and 6.
-pub fn check(wrong: bool, count: usize, short: bool) -> Tested
+pub fn check(wrong: bool, count: usize, short: bool) -> Result<(), Refusal>
     ensures { tested result ≡ first_of (ahead wrong count short) 0 }
 {
     if wrong {
-        return Tested::Refused(Refusal::Record);
+        return Err(Refusal::Record);
     }
     if count == 0 {
-        return Tested::Refused(Refusal::TooFew);
+        return Err(Refusal::TooFew);
     }
     if short {
-        return Tested::Refused(Refusal::TooShort);
+        return Err(Refusal::TooShort);
     }
-    Tested::Passed
+    Ok(())
 }

@@ -5,6 +5,7 @@ mod checks;
 mod plots;
 mod proportions;
 mod rates;
+mod size;
 mod totals;
 
 ghost use Rattle.std.specs.Prelude.{◌≡◌, false, [], ◌∷◌, length};
@@ -12,13 +13,16 @@ ghost use Rattle.laws.specs.Front.{lent_after};
 ghost use Rattle.floats.specs.Values.{plus_zero};
 ghost use Rattle.points.specs.Points.{uppers, lowers, outs, zs, has_zs};
 ghost use Rattle.points.specs.Plotting.{any_shorter};
-ghost use Rattle.attributes.specs.Records.{number, changed_p, changed_u, new_p, new_u, with_centre_p, with_centre_u, add_p, add_u, kept_after};
-ghost use Rattle.attributes.specs.Evaluating.{evaluated, plot_p, plot_u, evaluate_p, evaluate_u};
+ghost use Rattle.attributes.specs.Records.{number, changed, new_chart, with_centre, add, chart_wrong, centre_wrong, kept_after};
+ghost use Rattle.attributes.specs.Evaluating.{evaluated, wrong, chart_centre, chart_plot, evaluate};
+ghost use Rattle.attributes.specs.Steps.{Fine};
 
-use checks::Tested;
+use numbers::Numbered;
+use size::Size;
+use std::marker::PhantomData;
 
 /// The centre of a chart.
-#[derive(Clone, Copy)]
+#[derive(Clone, Copy, Debug, PartialEq)]
 pub enum Centre {
     /// Computed from the samples.
     Computed,
@@ -26,36 +30,32 @@ pub enum Centre {
     Given(f64),
 }
 
-/// A P chart: the part of the parcels inspected that is damaged. Its samples stand in two slices that the caller lends to
-/// each call: `counts`, how many were damaged, and `sizes`, how many were inspected.
+/// A chart, whose samples have sizes of the type S. They stand in two slices that the caller lends to each call: `counts`, how many
+/// were damaged, and `sizes`.
 ///
-/// The fields may be any. A record that is no chart is refused by every call (14): its given centre is not finite and
-/// strictly between 0 and 1, its count is over 4,096, or over the length of one of the slices; by [`PChart::evaluate`] also
-/// where a stored sample is one that [`PChart::add`] refuses.
-#[derive(Clone, Copy)]
-pub struct PChart {
+/// The fields may be any. A record that is no chart is refused by every call (14): its given centre is not allowed, its count is
+/// over 4,096, or over the length of one of the slices; by [`Chart::evaluate`] also where a stored sample is one that
+/// [`Chart::add`] refuses.
+#[derive(Clone, Copy, Debug, PartialEq)]
+pub struct Chart<S> {
     /// The centre: computed, or a given one.
     pub centre: Centre,
     /// How many samples there are.
     pub count: usize,
+    /// What the sizes are.
+    pub size: PhantomData<S>,
 }
 
-/// A U chart: damaged parcels per unit, as per thousand. Its samples stand in two slices that the caller lends to each
-/// call: `counts`, how many were damaged, and `sizes`, in how many units.
-///
-/// The fields may be any. A record that is no chart is refused by every call (14): its given centre is not finite and above
-/// 0, its count is over 4,096, or over the length of one of the slices; by [`UChart::evaluate`] also where a stored sample
-/// is one that [`UChart::add`] refuses.
-#[derive(Clone, Copy)]
-pub struct UChart {
-    /// The centre: computed, or a given one.
-    pub centre: Centre,
-    /// How many samples there are.
-    pub count: usize,
-}
+/// A P chart: the part of the parcels inspected that is damaged. The size of a sample is how many were inspected, and a centre is
+/// allowed that is finite and strictly between 0 and 1.
+pub type PChart = Chart<u64>;
+
+/// A U chart: damaged parcels per unit, as per thousand. The size of a sample is in how many units they were, and a centre is
+/// allowed that is finite and above 0.
+pub type UChart = Chart<f64>;
 
 /// Why a call is refused. The number is that of documents 01 and 02.
-#[derive(Clone, Copy)]
+#[derive(Clone, Copy, Debug, PartialEq, Eq)]
 pub enum Refusal {
     /// The chart holds 4,096 samples (5).
     Full,
@@ -79,40 +79,13 @@ pub enum Refusal {
     Centre,
 }
 
-/// What making or changing a P chart answers.
-#[derive(Clone, Copy)]
-pub enum PChanged {
-    /// The chart (0).
-    Done(PChart),
-    /// The chart is as it was; of [`PChart::with_centre`], there is none.
-    Refused(Refusal),
-}
+impl Numbered for Refusal {
+    ghost number = { number };
 
-/// What making or changing a U chart answers.
-#[derive(Clone, Copy)]
-pub enum UChanged {
-    /// The chart (0).
-    Done(UChart),
-    /// The chart is as it was; of [`UChart::with_centre`], there is none.
-    Refused(Refusal),
-}
-
-/// What evaluating answers.
-#[derive(Clone, Copy)]
-pub enum Evaluated {
-    /// The centre (0).
-    Done(f64),
-    /// There is none.
-    Refused(Refusal),
-}
-
-impl Refusal {
     /// The refusal's number in documents 01 and 02.
     ///
     /// `Refusal::Record.number()` is 14.
-    pub fn number(self) -> u8
-        ensures { result ≡ number self }
-    {
+    fn number(&self) -> u8 {
         match self {
             Refusal::Full => 5,
             Refusal::TooShort => 6,
@@ -128,114 +101,116 @@ impl Refusal {
     }
 }
 
-impl PChanged {
-    /// The answer's number in documents 01 and 02.
-    ///
-    /// `PChart::with_centre(1.0).number()` is 20.
-    pub fn number(self) -> u8
-        ensures { result ≡ (changed_p new_p self).0 }
-    {
-        match self {
-            PChanged::Done(_) => 0,
-            PChanged::Refused(why) => why.number(),
-        }
-    }
-}
-
-impl UChanged {
-    /// The answer's number in documents 01 and 02.
-    ///
-    /// `UChart::with_centre(1.0).number()` is 0.
-    pub fn number(self) -> u8
-        ensures { result ≡ (changed_u new_u self).0 }
-    {
-        match self {
-            UChanged::Done(_) => 0,
-            UChanged::Refused(why) => why.number(),
-        }
-    }
-}
-
-impl Evaluated {
-    /// The answer's number in documents 01 and 02.
-    ///
-    /// `Evaluated::Done(0.5).number()` is 0.
-    pub fn number(self) -> u8
-        ensures { result ≡ (evaluated self).0 }
-    {
-        match self {
-            Evaluated::Done(_) => 0,
-            Evaluated::Refused(why) => why.number(),
-        }
-    }
-}
-
-impl PChart {
+impl<S: Size> Chart<S> {
     /// A chart with no samples, whose centre is computed from those that it gets.
     ///
     /// Refuses nothing.
     ///
-    /// `PChart::new()` is `PChart { centre: Centre::Computed, count: 0 }`.
-    pub fn new() -> PChart
-        ensures { result ≡ new_p }
+    /// `PChart::new()` has the centre `Centre::Computed` and the count 0.
+    pub fn new() -> Chart<S>
+        ensures { result ≡ new_chart }
     {
-        PChart {
+        Chart {
             centre: Centre::Computed,
             count: 0,
+            size: PhantomData,
         }
     }
 
     /// A chart with no samples and a given centre.
     ///
-    /// Gives `Done` with the chart. Refuses a centre that is not finite and strictly between 0 and 1 (20, `Centre`).
+    /// Gives `Ok` with the chart. Refuses a centre that is not allowed (20, `Centre`).
     ///
-    /// `PChart::with_centre(0.5)` is `PChanged::Done` with `PChart { centre: Centre::Given(0.5), count: 0 }`.
-    pub fn with_centre(centre: f64) -> PChanged
-        ensures { changed_p new_p result ≡ with_centre_p centre }
+    /// `PChart::with_centre(0.5)` is `Ok` with the centre `Centre::Given(0.5)` and the count 0; `UChart::with_centre(16.0)` is
+    /// `Ok` with `Centre::Given(16.0)`.
+    pub fn with_centre(centre: f64) -> Result<Chart<S>, Refusal>
+        ensures { changed new_chart result ≡ with_centre S.kind centre }
     {
-        if !proportions::allowed(centre) {
-            return PChanged::Refused(Refusal::Centre);
+        if !S::allows(centre) {
+            return Err(Refusal::Centre);
         }
-        PChanged::Done(PChart {
+        Ok(Chart {
             centre: Centre::Given(centre),
             count: 0,
+            size: PhantomData,
         })
     }
 
-    /// Appends one sample: writes `damaged` to `counts` and `inspected` to `sizes`, at place count, and gives the chart with
-    /// one sample more. Other entries are untouched.
+    // Whether the given centre, if there is one, is not allowed.
+    fn centre_wrong(self) -> bool
+        ensures { result ≡ centre_wrong S.kind.allowed self.centre }
+    {
+        match self.centre {
+            Centre::Computed => false,
+            Centre::Given(x) => !S::allows(x),
+        }
+    }
+
+    // Whether the record is no chart beside slices of these lengths.
+    fn record_wrong(self, counts: usize, sizes: usize) -> bool
+        ensures { result ≡ chart_wrong S.kind self counts sizes }
+    {
+        checks::record_wrong(self.centre_wrong(), self.count, counts, sizes)
+    }
+
+    // 14, in evaluating; and what the record tells where it is not wrong.
+    fn wrong(self, counts: &[u64], sizes: &[S]) -> bool
+        ensures is { result ≡ wrong S.kind self counts.now sizes.now }
+        ensures fine { result ≡ false → Fine S.kind self counts.now sizes.now }
+    {
+        if self.record_wrong(counts.len(), sizes.len()) {
+            return true;
+        }
+        !S::are_right(self.count, counts, sizes)
+    }
+
+    // The centre, computed or given.
+    fn centre_of(self, counts: &[u64], sizes: &[S]) -> f64
+        requires { Fine S.kind self counts.now sizes.now }
+        ensures { result ≡ chart_centre S.kind self counts.now sizes.now }
+    {
+        match self.centre {
+            Centre::Given(x) => x,
+            Centre::Computed => {
+                let n = self.count;
+                let damaged = totals::total(&counts[..n]);
+                std::num::nearest_u64_to_f64(damaged) / S::total(&sizes[..n])
+            }
+        }
+    }
+
+    /// Appends one sample: writes `damaged` to `counts` and `size` to `sizes`, at place count, and gives the chart with one sample
+    /// more. Other entries are untouched.
     ///
     /// Refuses, in this order and with both slices as they came: a record that is no chart (14, `Record`), a count over
-    /// 4,294,967,295, of either (16, `Count`), no parcel inspected (17, `NoSize`), more damaged than inspected (18,
-    /// `Damaged`), one more than 4,096 (5, `Full`), a slice with no room for it (6, `TooShort`).
+    /// 4,294,967,295, damaged or inspected (16, `Count`), no parcel inspected (17, `NoSize`), more damaged than inspected (18,
+    /// `Damaged`), units that are not finite and above zero (19, `Units`), one more than 4,096 (5, `Full`), a slice with no room
+    /// for it (6, `TooShort`).
     ///
     /// With a chart that holds nothing, `add(&mut counts, &mut sizes, 3, 100)` writes 3 to `counts[0]` and 100 to `sizes[0]`,
     /// and gives the chart with count 1.
     pub fn add(
         self,
         counts: &mut [u64],
-        sizes: &mut [u64],
+        sizes: &mut [S],
         damaged: u64,
-        inspected: u64,
-    ) -> PChanged
-        ensures answer { changed_p self result
-            ≡ add_p self (length counts.old) (length sizes.old) damaged inspected }
-        ensures counts { counts.new ≡ kept_after (changed_p self result).0 self.count damaged counts.old }
-        ensures sizes { sizes.new ≡ kept_after (changed_p self result).0 self.count inspected sizes.old }
+        size: S,
+    ) -> Result<Chart<S>, Refusal>
+        ensures answer { changed self result
+            ≡ add S.kind self (length counts.old) (length sizes.old) damaged size }
+        ensures counts { counts.new ≡ kept_after (changed self result).0 self.count damaged counts.old }
+        ensures sizes { sizes.new ≡ kept_after (changed self result).0 self.count size sizes.old }
     {
-        let wrong = proportions::record_wrong(self, counts.len(), sizes.len());
-        let sample = proportions::sample(damaged, inspected);
-        match checks::adding(wrong, sample, self.count, counts.len(), sizes.len()) {
-            Tested::Refused(why) => PChanged::Refused(why),
-            Tested::Passed => {
-                let at = self.count;
-                counts[at] = damaged;
-                sizes[at] = inspected;
-                let mut chart = self;
-                chart.count = at + 1;
-                PChanged::Done(chart)
-            }
-        }
+        let wrong = self.record_wrong(counts.len(), sizes.len());
+        let sample = S::sample(damaged, size);
+        checks::adding(wrong, sample, self.count, counts.len(), sizes.len())?;
+        let at = self.count;
+        counts[at] = damaged;
+        sizes[at] = size;
+        Ok(Chart {
+            count: at + 1,
+            ..self
+        })
     }
 
     /// Evaluates the chart: writes each point's value, limits, verdict and standardized value to the front of the lent
@@ -246,179 +221,51 @@ impl PChart {
     /// points (6, `TooShort`), a centre, value, sigma or limit that is not finite (7, `Overflow`). At 7 all six slices are
     /// zero throughout; at any other refusal they are as they came.
     ///
-    /// With the centre 0.5 and 36 inspected the limits are 0.75 and 0.25: 27 damaged are on the upper one, and in control.
+    /// P: with the centre 0.5 and 36 inspected the limits are 0.75 and 0.25: 27 damaged are on the upper one, and in control.
+    /// U: with the centre 16.0 and one unit the limits are 28.0 and 4.0: 29 damaged are out of control.
     pub fn evaluate(
         self,
         counts: &[u64],
-        sizes: &[u64],
+        sizes: &[S],
         values: &mut [f64],
         ucl: &mut [f64],
         lcl: &mut [f64],
         out: &mut [bool],
         z: &mut [f64],
         has_z: &mut [bool],
-    ) -> Evaluated
+    ) -> Result<f64, Refusal>
         ensures answer { evaluated result
-            ≡ evaluate_p self counts.now sizes.now
+            ≡ evaluate S.kind self counts.now sizes.now
             (any_shorter self.count (length values.old ∷ length ucl.old ∷ length lcl.old
             ∷ length out.old ∷ length z.old ∷ length has_z.old ∷ [])) }
-        ensures values { values.new
-            ≡ lent_after (evaluated result).0 plus_zero (plot_p self counts.now sizes.now).values values.old }
-        ensures ucl { ucl.new
-            ≡ lent_after (evaluated result).0 plus_zero (uppers (plot_p self counts.now sizes.now)) ucl.old }
-        ensures lcl { lcl.new
-            ≡ lent_after (evaluated result).0 plus_zero (lowers (plot_p self counts.now sizes.now)) lcl.old }
-        ensures out { out.new
-            ≡ lent_after (evaluated result).0 false (outs (plot_p self counts.now sizes.now)) out.old }
-        ensures z { z.new
-            ≡ lent_after (evaluated result).0 plus_zero (zs (plot_p self counts.now sizes.now)) z.old }
-        ensures has_z { has_z.new
-            ≡ lent_after (evaluated result).0 false (has_zs (plot_p self counts.now sizes.now)) has_z.old }
+        ensures values { values.new ≡ lent_after (evaluated result).0 plus_zero
+            (chart_plot S.kind self counts.now sizes.now).values values.old }
+        ensures ucl { ucl.new ≡ lent_after (evaluated result).0 plus_zero
+            (uppers (chart_plot S.kind self counts.now sizes.now)) ucl.old }
+        ensures lcl { lcl.new ≡ lent_after (evaluated result).0 plus_zero
+            (lowers (chart_plot S.kind self counts.now sizes.now)) lcl.old }
+        ensures out { out.new ≡ lent_after (evaluated result).0 false
+            (outs (chart_plot S.kind self counts.now sizes.now)) out.old }
+        ensures z { z.new ≡ lent_after (evaluated result).0 plus_zero
+            (zs (chart_plot S.kind self counts.now sizes.now)) z.old }
+        ensures has_z { has_z.new ≡ lent_after (evaluated result).0 false
+            (has_zs (chart_plot S.kind self counts.now sizes.now)) has_z.old }
     {
         let n = self.count;
-        let wrong = proportions::wrong(self, counts, sizes);
-        let short = points::too_short(
-            n,
+        let wrong = self.wrong(counts, sizes);
+        let lengths = [
             values.len(),
             ucl.len(),
             lcl.len(),
             out.len(),
             z.len(),
             has_z.len(),
-        );
-        match checks::check(wrong, n, short) {
-            Tested::Refused(why) => Evaluated::Refused(why),
-            Tested::Passed => {
-                let cl = proportions::centre(self, counts, sizes);
-                proportions::fill_sizes(n, sizes, ucl);
-                plots::evaluate(
-                    cl,
-                    proportions::variance(cl),
-                    n,
-                    counts,
-                    values,
-                    ucl,
-                    lcl,
-                    out,
-                    z,
-                    has_z,
-                )
-            }
-        }
-    }
-}
-
-impl UChart {
-    /// A chart with no samples, whose centre is computed from those that it gets.
-    ///
-    /// Refuses nothing.
-    ///
-    /// `UChart::new()` is `UChart { centre: Centre::Computed, count: 0 }`.
-    pub fn new() -> UChart
-        ensures { result ≡ new_u }
-    {
-        UChart {
-            centre: Centre::Computed,
-            count: 0,
-        }
-    }
-
-    /// A chart with no samples and a given centre.
-    ///
-    /// Gives `Done` with the chart. Refuses a centre that is not finite and above 0 (20, `Centre`).
-    ///
-    /// `UChart::with_centre(16.0)` is `UChanged::Done` with `UChart { centre: Centre::Given(16.0), count: 0 }`.
-    pub fn with_centre(centre: f64) -> UChanged
-        ensures { changed_u new_u result ≡ with_centre_u centre }
-    {
-        if !rates::allowed(centre) {
-            return UChanged::Refused(Refusal::Centre);
-        }
-        UChanged::Done(UChart {
-            centre: Centre::Given(centre),
-            count: 0,
-        })
-    }
-
-    /// Appends one sample: writes `damaged` to `counts` and `units` to `sizes`, at place count, and gives the chart with one
-    /// sample more. Other entries are untouched.
-    ///
-    /// Refuses, in this order and with both slices as they came: a record that is no chart (14, `Record`), a count over
-    /// 4,294,967,295 (16, `Count`), units that are not finite and above zero (19, `Units`), one more than 4,096 (5, `Full`), a
-    /// slice with no room for it (6, `TooShort`).
-    ///
-    /// With a chart that holds nothing, `add(&mut counts, &mut sizes, 3, 2.5)` writes 3 to `counts[0]` and 2.5 to `sizes[0]`,
-    /// and gives the chart with count 1.
-    pub fn add(self, counts: &mut [u64], sizes: &mut [f64], damaged: u64, units: f64) -> UChanged
-        ensures answer { changed_u self result
-            ≡ add_u self (length counts.old) (length sizes.old) damaged units }
-        ensures counts { counts.new ≡ kept_after (changed_u self result).0 self.count damaged counts.old }
-        ensures sizes { sizes.new ≡ kept_after (changed_u self result).0 self.count units sizes.old }
-    {
-        let wrong = rates::record_wrong(self, counts.len(), sizes.len());
-        let sample = rates::sample(damaged, units);
-        match checks::adding(wrong, sample, self.count, counts.len(), sizes.len()) {
-            Tested::Refused(why) => UChanged::Refused(why),
-            Tested::Passed => {
-                let at = self.count;
-                counts[at] = damaged;
-                sizes[at] = units;
-                let mut chart = self;
-                chart.count = at + 1;
-                UChanged::Done(chart)
-            }
-        }
-    }
-
-    /// Evaluates the chart, as [`PChart::evaluate`] does, and refuses as it does.
-    ///
-    /// With the centre 16.0 and one unit the limits are 28.0 and 4.0: 29 damaged are out of control.
-    pub fn evaluate(
-        self,
-        counts: &[u64],
-        sizes: &[f64],
-        values: &mut [f64],
-        ucl: &mut [f64],
-        lcl: &mut [f64],
-        out: &mut [bool],
-        z: &mut [f64],
-        has_z: &mut [bool],
-    ) -> Evaluated
-        ensures answer { evaluated result
-            ≡ evaluate_u self counts.now sizes.now
-            (any_shorter self.count (length values.old ∷ length ucl.old ∷ length lcl.old
-            ∷ length out.old ∷ length z.old ∷ length has_z.old ∷ [])) }
-        ensures values { values.new
-            ≡ lent_after (evaluated result).0 plus_zero (plot_u self counts.now sizes.now).values values.old }
-        ensures ucl { ucl.new
-            ≡ lent_after (evaluated result).0 plus_zero (uppers (plot_u self counts.now sizes.now)) ucl.old }
-        ensures lcl { lcl.new
-            ≡ lent_after (evaluated result).0 plus_zero (lowers (plot_u self counts.now sizes.now)) lcl.old }
-        ensures out { out.new
-            ≡ lent_after (evaluated result).0 false (outs (plot_u self counts.now sizes.now)) out.old }
-        ensures z { z.new
-            ≡ lent_after (evaluated result).0 plus_zero (zs (plot_u self counts.now sizes.now)) z.old }
-        ensures has_z { has_z.new
-            ≡ lent_after (evaluated result).0 false (has_zs (plot_u self counts.now sizes.now)) has_z.old }
-    {
-        let n = self.count;
-        let wrong = rates::wrong(self, counts, sizes);
-        let short = points::too_short(
-            n,
-            values.len(),
-            ucl.len(),
-            lcl.len(),
-            out.len(),
-            z.len(),
-            has_z.len(),
-        );
-        match checks::check(wrong, n, short) {
-            Tested::Refused(why) => Evaluated::Refused(why),
-            Tested::Passed => {
-                let cl = rates::centre(self, counts, sizes);
-                rates::fill_sizes(n, sizes, ucl);
-                plots::evaluate(cl, cl, n, counts, values, ucl, lcl, out, z, has_z)
-            }
-        }
+        ];
+        let short = points::too_short(n, &lengths);
+        checks::check(wrong, n, short)?;
+        let cl = self.centre_of(counts, sizes);
+        S::fill(n, sizes, ucl);
+        let variance = S::variance(cl);
+        plots::evaluate(cl, variance, n, counts, values, ucl, lcl, out, z, has_z)
     }
 }

@@ -6,56 +6,55 @@ ghost use Rattle.points.specs.Points.{sound, uppers, lowers, outs, zs, has_zs};
 ghost use Rattle.points.specs.Plotting.{plotted};
 ghost use Rattle.points.specs.Steps.{settled};
 ghost use Rattle.attributes.specs.Evaluating.{evaluated, answer_for, values_of, plot_of};
-ghost use Rattle.attributes.specs.Steps.{variances_of, roots_of, SmallTo};
+ghost use Rattle.attributes.specs.Steps.{plotting, variances_of, roots_of, SmallTo};
 
-use super::{Evaluated, Refusal};
-use points::Plotted;
+use super::Refusal;
+
+impl From<points::Refusal> for Refusal {
+    ghost from_gives = { plotting };
+
+    fn from(why: points::Refusal) -> Refusal {
+        match why {
+            points::Refusal::TooShort => Refusal::TooShort,
+            points::Refusal::Overflow => Refusal::Overflow,
+        }
+    }
+}
 
 // Counts that 14 does not refuse fit a u32, whose cast takes least.
 fn fill_values(n: usize, counts: &[u64], sizes: &[f64], out: &mut [f64])
     requires { (n ≤ length counts.now) × (n ≤ length sizes.now) × (n ≤ length out.old) × SmallTo n counts.now }
     ensures { out.new ≡ at_front (values_of counts.now (take n sizes.now)) out.old }
 {
-    let mut i = 0;
-    while i < n {
-        out[i] = (counts[i] as u32) as f64 / sizes[i];
-        i += 1;
+    for i in 0..n {
+        out[i] = f64::from(counts[i] as u32) / sizes[i];
     }
 }
 
-// In place: a size becomes its point's variance. A loop of its own divides faster than the roots' would.
-fn fill_variances(variance: f64, n: usize, out: &mut [f64])
-    requires { n ≤ length out.old }
-    ensures { out.new ≡ at_front (variances_of variance (take n out.old)) out.old }
+// In place: each size becomes its point's variance. A loop of its own divides faster than the roots' would.
+fn variances(variance: f64, sizes: &mut [f64])
+    ensures { sizes.new ≡ variances_of variance sizes.old }
 {
-    let mut i = 0;
-    while i < n {
-        out[i] = variance / out[i];
-        i += 1;
+    for size in sizes.iter_mut() {
+        *size = variance / *size;
     }
 }
 
-// In place: a variance becomes its point's sigma.
-fn fill_sigmas(n: usize, out: &mut [f64])
-    requires { n ≤ length out.old }
-    ensures { out.new ≡ at_front (roots_of (take n out.old)) out.old }
+// In place: each variance becomes its point's sigma.
+fn sigmas(variances: &mut [f64])
+    ensures { variances.new ≡ roots_of variances.old }
 {
-    let mut i = 0;
-    while i < n {
-        out[i] = arith::or_nan(root::root(out[i]));
-        i += 1;
+    for variance in variances.iter_mut() {
+        *variance = arith::or_nan(root::root(*variance));
     }
 }
 
 // The answer of an evaluation about a centre, by how plotting went.
-fn answer(went: Plotted, cl: f64) -> Evaluated
+fn answer(went: Result<(), points::Refusal>, cl: f64) -> Result<f64, Refusal>
     ensures { evaluated result ≡ answer_for (plotted went) cl }
 {
-    match went {
-        Plotted::Done => Evaluated::Done(cl),
-        Plotted::TooShort => Evaluated::Refused(Refusal::TooShort),
-        Plotted::Overflow => Evaluated::Refused(Refusal::Overflow),
-    }
+    went?;
+    Ok(cl)
 }
 
 // Evaluates n samples whose sizes stand at the front of `ucl`.
@@ -70,7 +69,7 @@ pub fn evaluate(
     out: &mut [bool],
     z: &mut [f64],
     has_z: &mut [bool],
-) -> Evaluated
+) -> Result<f64, Refusal>
     requires { (n ≤ length counts.now) × (n ≤ length values.old) × (n ≤ length ucl.old) × (n ≤ length lcl.old)
         × (n ≤ length out.old) × (n ≤ length z.old) × (n ≤ length has_z.old) × SmallTo n counts.now }
     ensures answer { evaluated result
@@ -89,7 +88,7 @@ pub fn evaluate(
         ≡ lent_after (evaluated result).0 false (has_zs (plot_of cl variance counts.now (take n ucl.old))) has_z.old }
 {
     fill_values(n, counts, ucl, values);
-    fill_variances(variance, n, ucl);
-    fill_sigmas(n, ucl);
+    variances(variance, &mut ucl[..n]);
+    sigmas(&mut ucl[..n]);
     answer(points::plot(cl, n, values, ucl, lcl, out, z, has_z), cl)
 }

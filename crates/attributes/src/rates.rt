@@ -1,48 +1,16 @@
-// What is the U chart's own: its centre, what a sample is, and a sample's size.
-ghost use Rattle.std.specs.Prelude.{◌≡◌, ◌≤◌, false, length, take};
-ghost use Rattle.laws.specs.Refusals.{first_of};
-ghost use Rattle.laws.specs.Front.{at_front};
-ghost use Rattle.attributes.specs.Records.{rate_allowed, centre_wrong, record_wrong_u, sample_u};
-ghost use Rattle.attributes.specs.Evaluating.{right, stored_right_u, wrong_u, centre_u};
-ghost use Rattle.attributes.specs.Steps.{tested};
+// U charts: a sample's size is in how many units.
+ghost use Rattle.std.specs.Prelude.{◌≡◌};
+ghost use Rattle.attributes.specs.Kinds.{rate_allowed, sample_u, rates};
+ghost use Rattle.attributes.specs.Evaluating.{right};
 
-use super::checks::{MOST, Tested};
-use super::{Centre, Refusal, UChart, checks, totals};
+use super::checks::MOST;
+use super::{Refusal, Size};
 
-// Two comparisons, so that a loop can take several units at a time.
-pub fn allowed(u: f64) -> bool
+// Whether a rate, or units, are finite and above zero. Two comparisons, so that a loop can take several units at a time.
+fn allowed(u: f64) -> bool
     ensures { result ≡ rate_allowed u }
 {
     (0.0 < u) & (u <= floats::LARGEST)
-}
-
-fn centre_wrong(centre: Centre) -> bool
-    ensures { result ≡ centre_wrong rate_allowed centre }
-{
-    match centre {
-        Centre::Computed => false,
-        Centre::Given(u) => !allowed(u),
-    }
-}
-
-pub fn record_wrong(c: UChart, counts: usize, sizes: usize) -> bool
-    ensures { result ≡ record_wrong_u c counts sizes }
-{
-    let centre = c.centre;
-    checks::record_wrong(centre_wrong(centre), c.count, counts, sizes)
-}
-
-// 16 and 19.
-pub fn sample(damaged: u64, units: f64) -> Tested
-    ensures { tested result ≡ first_of (sample_u damaged units) 0 }
-{
-    if MOST < damaged {
-        return Tested::Refused(Refusal::Count);
-    }
-    if !allowed(units) {
-        return Tested::Refused(Refusal::Units);
-    }
-    Tested::Passed
 }
 
 fn sample_right(damaged: u64, units: f64) -> bool
@@ -52,53 +20,42 @@ fn sample_right(damaged: u64, units: f64) -> bool
     !((MOST < damaged) | none)
 }
 
-fn stored_right(count: usize, counts: &[u64], sizes: &[f64]) -> bool
-    requires { (count ≤ length counts.now) × (count ≤ length sizes.now) }
-    ensures { result ≡ stored_right_u count counts.now sizes.now }
-{
-    let mut all = true;
-    let mut i = 0;
-    while i < count {
-        all = all & sample_right(counts[i], sizes[i]);
-        i += 1;
-    }
-    all
-}
+impl Size for f64 {
+    ghost kind = { rates };
 
-// 14, in evaluating.
-pub fn wrong(c: UChart, counts: &[u64], sizes: &[f64]) -> bool
-    ensures { result ≡ wrong_u c counts.now sizes.now }
-{
-    if record_wrong(c, counts.len(), sizes.len()) {
-        return true;
+    fn allows(centre: f64) -> bool {
+        allowed(centre)
     }
-    !stored_right(c.count, counts, sizes)
-}
 
-pub fn centre(c: UChart, counts: &[u64], sizes: &[f64]) -> f64
-    requires { wrong_u c counts.now sizes.now ≡ false }
-    ensures { result ≡ centre_u c counts.now sizes.now }
-{
-    let centre = c.centre;
-    match centre {
-        Centre::Given(u) => u,
-        Centre::Computed => {
-            let n = c.count;
-            let damaged = totals::total(&counts[0..n]);
-            let units = arith::sum_of(&sizes[0..n]);
-            std::num::nearest_u64_to_f64(damaged) / units
+    // 16 and 19.
+    fn sample(damaged: u64, units: f64) -> Result<(), Refusal> {
+        if MOST < damaged {
+            return Err(Refusal::Count);
         }
+        if !allowed(units) {
+            return Err(Refusal::Units);
+        }
+        Ok(())
     }
-}
 
-// The sizes again, in front of a slice, where the points' sigmas are to take their place.
-pub fn fill_sizes(n: usize, sizes: &[f64], out: &mut [f64])
-    requires { (n ≤ length sizes.now) × (n ≤ length out.old) }
-    ensures { out.new ≡ at_front (take n sizes.now) out.old }
-{
-    let mut i = 0;
-    while i < n {
-        out[i] = sizes[i];
-        i += 1;
+    fn are_right(count: usize, counts: &[u64], sizes: &[f64]) -> bool {
+        let mut all = true;
+        for i in 0..count {
+            all = all & sample_right(counts[i], sizes[i]);
+        }
+        all
+    }
+
+    fn total(units: &[f64]) -> f64 {
+        arith::sum_of(units)
+    }
+
+    fn variance(cl: f64) -> f64 {
+        cl
+    }
+
+    // The sizes as they are, where the points' sigmas are to take their place.
+    fn fill(n: usize, sizes: &[f64], out: &mut [f64]) {
+        out[..n].copy_from_slice(&sizes[..n]);
     }
 }

@@ -1,6 +1,6 @@
 // Totals of counts.
 ghost use Rattle.std.specs.Prelude.{◌≡◌, ◌≤◌, length};
-ghost use Rattle.attributes.specs.Evaluating.{total_of};
+ghost use Rattle.attributes.specs.Kinds.{total_of};
 ghost use Rattle.attributes.specs.Steps.{Small};
 
 // The total of counts that are few and small enough for it to fit.
@@ -8,11 +8,5 @@ pub fn total(counts: &[u64]) -> u64
     requires { (length counts.now ≤ 4096) × Small counts.now }
     ensures { result ≡ total_of counts.now }
 {
-    let mut t: u64 = 0;
-    let mut i = 0;
-    while i < counts.len() {
-        t += counts[i];
-        i += 1;
-    }
-    t
+    counts.iter().sum()
 }

@@ -5,7 +5,7 @@ use Prim.Native.Nat.{ℕ, ◌+◌, ◌-◌, ◌*◌, ◌≤◌}
 use native.Mathlib.Nat.{add-sub_cancel_left}
 use native.Mathlib.Omega.{arith}
 use lib.Ieee.{Float}
-use lib.ListN.{length, take, drop, length-append, length-take, length-drop}
+use lib.ListN.{length, take, drop, length-take, length-drop}
 use Rattle.charts.specs.declared.Chart.{Chart}
 use Rattle.charts.specs.Records.{values_after}
 
@@ -24,11 +24,3 @@ module _ (c : Chart) (values : List Float) (room : c.count * c.size + c.size ≤
   pub lent_length : (sample : List Float) → length sample ≡ c.size
       → length (take (c.count * c.size + c.size - c.count * c.size) (drop (c.count * c.size) values)) ≡ length sample
   lent_length sample n = simp (length-take, length-drop) (omega arith)
-
-  -- and the values are as long as they were
-  pub kept-length : (part : List Float)
-      → length part ≡ length (take (c.count * c.size + c.size - c.count * c.size) (drop (c.count * c.size) values))
-      → length (take (c.count * c.size) values
-      ++ (part ++ drop (c.count * c.size + c.size - c.count * c.size) (drop (c.count * c.size) values)))
-      ≡ length values
-  kept-length part e = simp (length-append, e, length-take, length-drop) (omega arith)

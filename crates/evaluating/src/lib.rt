@@ -1,5 +1,5 @@
-// Evaluating a chart, and the sigma figures. The four lent slices are parameters of their own: what a struct's references leave behind
-// them a contract could only name by places in nested pairs.
+// Evaluating a chart, and the sigma figures. The four lent slices are parameters of their own: what a struct's references leave
+// behind them a contract could only name by places in nested pairs.
 #![tactic(auto)]
 
 mod checked;
@@ -227,6 +227,7 @@ pub fn estimate(chart: Chart, values: &[f64]) -> Result<SigmaFigures, Refusal>
 /// or limits that are not all finite (7, `Overflow`).
 ///
 /// Of three observations of 0.1 it is 0.0: their moving ranges are.
+#[tactic(auto, unfolding(crate::specs::Sigma::estimate_of, crate::specs::Sigma::sigma_hat_of, crate::specs::Sigma::unless_refused))]
 pub fn sigma_hat(chart: Chart, values: &[f64]) -> Result<f64, Refusal>
     ensures { figured result ≡ sigma_hat_of (asked chart values.now) }
 {
@@ -239,6 +240,7 @@ pub fn sigma_hat(chart: Chart, values: &[f64]) -> Result<f64, Refusal>
 /// Gives `Ok` with the figure. Refuses as [`sigma_hat`] does.
 ///
 /// Of three observations of 0.1 it is 1.24.
+#[tactic(auto, unfolding(crate::specs::Sigma::estimate_of, crate::specs::Sigma::sigma_hat_df_of, crate::specs::Sigma::unless_refused))]
 pub fn sigma_hat_df(chart: Chart, values: &[f64]) -> Result<f64, Refusal>
     ensures { figured result ≡ sigma_hat_df_of (asked chart values.now) }
 {

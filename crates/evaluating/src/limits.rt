@@ -15,6 +15,7 @@ use charts::{Chart, Refusal};
 use rules::Limits;
 
 // A figure for individuals, and for subgroups the factor of the kind.
+#[tactic(auto, unfolding(crate::specs::Limits::factor_for, charts::specs::Records::by_kind))]
 pub fn factor_for(c: Chart, individuals: f64, ranges: Factor, deviations: Factor) -> f64
     requires { own_wrong c ≡ false }
     ensures { result ≡ factor_for c individuals (row_of ranges) (row_of deviations) }
@@ -38,6 +39,7 @@ fn main_limits(c: Chart, m: f64, d: f64) -> Limits
     }
 }
 
+#[tactic(auto, unfolding(crate::specs::Limits::lower_limit, charts::specs::Records::by_kind))]
 fn lower_limit(c: Chart, d: f64) -> f64
     requires { own_wrong c ≡ false }
     ensures { result ≡ lower_limit c d }

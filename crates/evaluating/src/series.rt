@@ -37,6 +37,7 @@ fn sample_at(c: Chart, values: &[f64], i: usize) -> &[f64]
 }
 
 // The observation at a place, or the mean of the sample there.
+#[tactic(auto, unfolding(crate::specs::Series::point_at, crate::specs::Series::by_series, charts::specs::Records::by_kind))]
 fn main_point(c: Chart, values: &[f64], i: usize) -> f64
     requires { (record_wrong c (length values.now) ≡ false) × (i < points_in c 0) }
     ensures { result ≡ point_at (asked c values.now) 0 i }
@@ -48,6 +49,7 @@ fn main_point(c: Chart, values: &[f64], i: usize) -> f64
 }
 
 // The moving range to the next observation, or the range or deviation of the sample at a place.
+#[tactic(auto, unfolding(crate::specs::Series::point_at, crate::specs::Series::by_series, charts::specs::Records::by_kind))]
 fn dispersion_point(c: Chart, values: &[f64], i: usize) -> f64
     requires { (record_wrong c (length values.now) ≡ false) × (i < points_in c 1) }
     ensures { result ≡ point_at (asked c values.now) 1 i }

@@ -76,6 +76,7 @@ fn deviation_cv2(f: f64, m: f64) -> f64
 }
 
 // The degrees of freedom.
+#[tactic(auto, unfolding(crate::specs::Sigma::df_of, charts::specs::Records::by_kind))]
 pub fn df_of(c: Chart) -> f64
     requires { own_wrong c ≡ false }
     ensures { result ≡ df_of c }

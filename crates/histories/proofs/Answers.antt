@@ -1,11 +1,10 @@
 -- What taking a value answers, refusal by refusal: marking's order, without what cannot apply to a single value. Two answers with the same
 -- numbers are one. Assumes nothing.
-use mathlib.Core.Path.{◌≡◌, refl, sym, ap, ap₂, ◌∙◌}
+use mathlib.Core.Path.{◌≡◌, ap, ap₂, ◌∙◌}
 use mathlib.Core.Bool.{true, false, not, cond, and-true}
 use mathlib.Core.List.{[], ◌∷◌}
 use Prim.Native.Nat.{ℕ, ◌≤◌, ◌<◌}
-use native.Mathlib.Omega.{arith}
-use borrow.Author.Tests.{lt-ltb, le-ltb, ne_eqb}
+use borrow.Author.Tests.{lt-ltb, le-ltb}
 use lib.Dec.{eqb}
 use lib.Ieee.{Float}
 use Rattle.std.specs.Prelude.{Result}
@@ -21,7 +20,7 @@ use Rattle.rules.specs.declared.Refusal.{Refusal}
 use Rattle.rules.specs.Finite.{finite_limits}
 use Rattle.rules.specs.Lines.{width_wrong, lines_of}
 use Rattle.rules.specs.Terms.{alone}
-use Rattle.rules.specs.Marking.{number, ahead, refusal}
+use Rattle.rules.specs.Marking.{ahead, refusal}
 use Rattle.rules.proofs.Accepted.{ahead-numbers}
 use Rattle.rules.proofs.Answers.{tells}
 use Rattle.histories.specs.declared.Lane.{Lane}

@@ -157,8 +157,7 @@ impl Lane {
         if !floats::is_finite(value) {
             return Err(Refusal::NotFinite);
         }
-        let lane = self.after(rules::lines_of(limits, width), value);
-        *self = lane;
-        Ok(reading::marks(lane, set.mask))
+        *self = self.after(rules::lines_of(limits, width), value);
+        Ok(reading::marks(*self, set.mask))
     }
 }

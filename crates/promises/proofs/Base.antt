@@ -13,6 +13,7 @@ use contract.Lifetimes.{Lfts}
 use denote.Triple.Clauses.{AtExit}
 use borrow.Fn.Kinds.{Dens, ended_of}
 use borrow.Author.Tests.{ne_eqb}
+use Rattle.std.specs.Prelude.{Result, Ok, Err}
 use Rattle.laws.specs.Refusals.{first_of, each}
 use Rattle.laws.specs.Lists.{tabulate}
 use Rattle.laws.specs.Front.{at_front}
@@ -38,8 +39,6 @@ use Rattle.sheets.specs.Said.{said}
 use Rattle.sheets.specs.Answers.{plain, judged, check_of, series_sheet, write_of, room_after}
 use Rattle.charts.specs.declared.Chart.{Chart}
 use Rattle.charts.specs.declared.Refusal.{Refusal}
-use Rattle.charts.specs.declared.Changed.{Changed}
-use Rattle.charts.specs.declared.Changed.TheVariants.{Done, Refused}
 use Rattle.charts.specs.Records.{number, changed, kind_wrong, size_wrong, own_wrong, record_wrong, no_chart, new_of, with_set_of}
 use Rattle.charts.proofs.Answers.{number-some}
 use Rattle.charts.proofs.Chart.new.Reads as new
@@ -226,19 +225,19 @@ new-is-01 kind size = by (kind_wrong kind) (size_wrong kind size) refl refl
     by false false e f = simp (e, f)
 
 -- The same of the calls: `Post` is what each promises of its result, told its arguments.
-module _ (κs : Lfts 0) (a : Dens κs new-kinds.ps) (made : Changed) (s : AtExit (ended_of 0 new-kinds.ps new-kinds.r) κs)
+module _ (κs : Lfts 0) (a : Dens κs new-kinds.ps) (made : Result Chart Refusal) (s : AtExit (ended_of 0 new-kinds.ps new-kinds.r) κs)
     (new-promised : new.Post κs a made s) where
   -- what `new` refuses, 01 refuses by the same number
-  pub new-refused-is-01 : (why : Refusal) → made ≡ Refused why → (number why, no_chart) ≡ new01 a.0 a.1.0
+  pub new-refused-is-01 : (why : Refusal) → made ≡ Err why → (number why, no_chart) ≡ new01 a.0 a.1.0
   unfolding then_set
   new-refused-is-01 why e =
       let answered : (number why, no_chart) ≡ new_of a.0 a.1.0 = ap (changed no_chart) (sym e) ∙ new-promised in
       sym (simp (ne_eqb (number why) 0 (number-some why))) ∙ ap (then_set 1) answered ∙ new-is-01 a.0 a.1.0
 
   -- to the chart that it gives, with the set that `shewhart` gives, `with_set` answers 01's new chart
-  pub new-changed-is-01 : (c : Chart) → made ≡ Done c
+  pub new-changed-is-01 : (c : Chart) → made ≡ Ok c
       → (set : RuleSet) (t : AtExit (ended_of 0 shewhart-kinds.ps shewhart-kinds.r) κs) → shewhart.Post κs tt set t
-      → (answer : Changed) (u : AtExit (ended_of 0 with-set-kinds.ps with-set-kinds.r) κs) → with-set.Post κs (c, (set, tt)) answer u
+      → (answer : Result Chart Refusal) (u : AtExit (ended_of 0 with-set-kinds.ps with-set-kinds.r) κs) → with-set.Post κs (c, (set, tt)) answer u
       → changed c answer ≡ new01 a.0 a.1.0
   unfolding then_set
   new-changed-is-01 c given set t shewhart-promised answer u with-set-promised =

@@ -6,23 +6,17 @@ use Prim.Native.Nat.{ℕ}
 use lib.Ieee.{Float}
 use Rattle.laws.specs.Front.{lent_after}
 use Rattle.floats.specs.Values.{plus_zero}
-use Rattle.evaluating.specs.declared.Evaluated.{Evaluated}
+use Rattle.std.specs.Prelude.{Result}
+use Rattle.charts.specs.declared.Refusal.{Refusal}
+use Rattle.evaluating.specs.declared.Evaluation.{Evaluation}
 use Rattle.evaluating.specs.Asked.{asked, interrupted, in_mode}
 use Rattle.evaluating.specs.Series.{series_of}
 use Rattle.evaluating.specs.Evaluating.{Answer, series_marks}
 use Rattle.evaluating.proofs.Answers.{lengths-one, limited-one, evaluated-one, estimated-one, figured-one}
-use Rattle.evaluating.proofs.Lengths.number.Reads as lengths-number
-use Rattle.evaluating.proofs.Lengths.number.Kinds as lengths-number-kinds
-use Rattle.evaluating.proofs.Evaluated.number.Reads as evaluated-number
-use Rattle.evaluating.proofs.Evaluated.number.Kinds as evaluated-number-kinds
-use Rattle.evaluating.proofs.Estimated.number.Reads as estimated-number
-use Rattle.evaluating.proofs.Estimated.number.Kinds as estimated-number-kinds
-use Rattle.evaluating.proofs.Figure.number.Reads as figure-number
-use Rattle.evaluating.proofs.Figure.number.Kinds as figure-number-kinds
-use Rattle.evaluating.proofs.Evaluated.none_stands.Reads as none-stands
-use Rattle.evaluating.proofs.Evaluated.none_stands.Kinds as none-stands-kinds
-use Rattle.evaluating.proofs.Limited.number.Reads as limited-number
-use Rattle.evaluating.proofs.Limited.number.Kinds as limited-number-kinds
+use Rattle.evaluating.proofs.none_stands.Reads as none-stands
+use Rattle.evaluating.proofs.none_stands.Kinds as none-stands-kinds
+use Rattle.evaluating.proofs.Evaluation.none_stands.Reads as none-stand
+use Rattle.evaluating.proofs.Evaluation.none_stands.Kinds as none-stand-kinds
 use Rattle.evaluating.proofs.limits_about.Reads as limits-about
 use Rattle.evaluating.proofs.limits_about.Kinds as limits-about-kinds
 use Rattle.evaluating.proofs.clear.Reads as clear
@@ -39,24 +33,15 @@ use Rattle.evaluating.proofs.sigma_hat_df.Reads as sigma-hat-df
 use Rattle.evaluating.proofs.sigma_hat_df.Kinds as sigma-hat-df-kinds
 use Rattle.promises.proofs.Coincide.{Coincide}
 
-lengths-number-one : Coincide 0 lengths-number-kinds.ps lengths-number-kinds.r lengths-number.Post (λ κs x s. x)
-lengths-number-one κs a x y s t p q = p ∙ sym q
-
-evaluated-number-one : Coincide 0 evaluated-number-kinds.ps evaluated-number-kinds.r evaluated-number.Post (λ κs x s. x)
-evaluated-number-one κs a x y s t p q = p ∙ sym q
-
-estimated-number-one : Coincide 0 estimated-number-kinds.ps estimated-number-kinds.r estimated-number.Post (λ κs x s. x)
-estimated-number-one κs a x y s t p q = p ∙ sym q
-
-figure-number-one : Coincide 0 figure-number-kinds.ps figure-number-kinds.r figure-number.Post (λ κs x s. x)
-figure-number-one κs a x y s t p q = p ∙ sym q
+none-stand-one : Coincide 0 none-stand-kinds.ps none-stand-kinds.r none-stand.Post (λ κs x s. x)
+none-stand-one κs a x y s t p q = p ∙ sym q
 
 none-stands-one : Coincide 0 none-stands-kinds.ps none-stands-kinds.r none-stands.Post (λ κs x s. x)
 none-stands-one κs a x y s t p q = p ∙ sym q
 
 -- what evaluating leaves: its answer, both series, both mark slices
 pub record Left : Type 0 where
-  pub answer : Evaluated
+  pub answer : Result Evaluation Refusal
   pub main : List Float
   pub dispersion : List Float
   pub main_marks : List ℕ
@@ -79,9 +64,6 @@ evaluate-one κs a x y s t p q =
     let main_marks = p.1.1.1.0 ∙ ap (λ (n : ℕ). lent_after n 0 (series_marks question 0) a.1.1.1.1.1.1.0.now) number ∙ sym q.1.1.1.0 in
     let dispersion_marks = p.1.1.1.1 ∙ ap (λ (n : ℕ). lent_after n 0 (series_marks question 1) a.1.1.1.1.1.1.1.0.now) number ∙ sym q.1.1.1.1 in
     cc (answer, main, dispersion, main_marks, dispersion_marks)
-
-limited-number-one : Coincide 0 limited-number-kinds.ps limited-number-kinds.r limited-number.Post (λ κs x s. x)
-limited-number-one κs a x y s t p q = p ∙ sym q
 
 limits-about-one : Coincide 0 limits-about-kinds.ps limits-about-kinds.r limits-about.Post (λ κs x s. x)
 limits-about-one κs a x y s t p q = limited-one x y (p ∙ sym q)

@@ -1,6 +1,7 @@
 -- For each public call: any two results that its promise allows for the same inputs coincide. And 01's table, proved as one; that what 02
 -- adds, left out, is 01; and R-5's two modes.
 pub mod Coincide
+mod Numbers
 mod Floats
 mod Groups
 mod Root

@@ -7,22 +7,23 @@ use lib.Ieee.{Float}
 use lib.ListN.{take}
 use Rattle.laws.specs.Front.{lent_after}
 use Rattle.floats.specs.Values.{plus_zero}
-use Rattle.points.specs.declared.Plotted.{Plotted}
+use Rattle.std.specs.Prelude.{Result, ⊤}
+use Rattle.points.specs.declared.Refusal.{Refusal}
 use Rattle.points.specs.Points.{uppers, lowers, outs, zs, has_zs}
 use Rattle.points.specs.Plotting.{plot_from}
 use Rattle.points.proofs.Plotting.{plotted-one}
-use Rattle.points.proofs.Plotted.number.Reads as number
-use Rattle.points.proofs.Plotted.number.Kinds as number-kinds
+use Rattle.points.proofs.RefusalNumbered.number.Reads as number
+use Rattle.points.proofs.RefusalNumbered.number.Kinds as number-kinds
 use Rattle.points.proofs.too_short.Reads as too_short
 use Rattle.points.proofs.too_short.Kinds as too-short-kinds
 use Rattle.points.proofs.plot.Reads as plot
 use Rattle.points.proofs.plot.Kinds as plot-kinds
 use Rattle.promises.proofs.Coincide.{Coincide}
 
-number-one : Coincide 0 number-kinds.ps number-kinds.r number.Post (λ κs x s. x)
+number-one : Coincide 1 number-kinds.ps number-kinds.r number.Post (λ κs x s. x)
 number-one κs a x y s t p q = p ∙ sym q
 
-too-short-one : Coincide 0 too-short-kinds.ps too-short-kinds.r too_short.Post (λ κs x s. x)
+too-short-one : Coincide 1 too-short-kinds.ps too-short-kinds.r too_short.Post (λ κs x s. x)
 too-short-one κs a x y s t p q = p ∙ sym q
 
 -- what a call that writes the columns of points leaves: its answer, and the six slices
@@ -35,7 +36,7 @@ pub record Left (A : Type 0) : Type 0 where
   pub z : List Float
   pub has_z : List Bool
 
-plot-one : Coincide 6 plot-kinds.ps plot-kinds.r plot.Post {Seen = Left Plotted} (λ κs x s. record {
+plot-one : Coincide 6 plot-kinds.ps plot-kinds.r plot.Post {Seen = Left (Result ⊤ Refusal)} (λ κs x s. record {
   answer = x;
   values = s.1.1.0.now;
   ucl = s.1.1.1.0.now;

@@ -2,14 +2,13 @@
 use mathlib.Core.Path.{sym, ap₂, ◌∙◌}
 use mathlib.Core.List.{List}
 use Prim.Native.Nat.{ℕ}
-use Rattle.rules.specs.declared.Marked.{Marked}
+use Rattle.std.specs.Prelude.{Result, ⊤}
+use Rattle.rules.specs.declared.Refusal.{Refusal}
 use Rattle.rules.proofs.Answers.{numbered-one}
 use Rattle.rules.proofs.mark.Reads as mark
 use Rattle.rules.proofs.mark.Kinds as mark-kinds
-use Rattle.rules.proofs.Marked.number.Reads as number
-use Rattle.rules.proofs.Marked.number.Kinds as number-kinds
-use Rattle.rules.proofs.Refusal.number.Reads as refusal-number
-use Rattle.rules.proofs.Refusal.number.Kinds as refusal-number-kinds
+use Rattle.rules.proofs.RefusalNumbered.number.Reads as refusal-number
+use Rattle.rules.proofs.RefusalNumbered.number.Kinds as refusal-number-kinds
 use Rattle.rules.proofs.finite_limits.Reads as finite-limits
 use Rattle.rules.proofs.finite_limits.Kinds as finite-limits-kinds
 use Rattle.rules.proofs.lines_of.Reads as lines_of
@@ -18,14 +17,11 @@ use Rattle.rules.proofs.window.Reads as window
 use Rattle.rules.proofs.window.Kinds as window-kinds
 use Rattle.promises.proofs.Coincide.{Coincide}
 
-mark-one : Coincide 3 mark-kinds.ps mark-kinds.r mark.Post {Seen = Marked × List ℕ} (λ κs x s. (x, s.1.1.1.1.1.1.0.now))
+mark-one : Coincide 3 mark-kinds.ps mark-kinds.r mark.Post {Seen = Result ⊤ Refusal × List ℕ} (λ κs x s. (x, s.1.1.1.0.now))
 mark-one κs a x y s t p q =
-    ap₂ (λ (u : Marked) (v : List ℕ). (u, v)) (numbered-one x y (p.0 ∙ sym q.0)) (p.1 ∙ sym q.1)
+    ap₂ (λ (u : Result ⊤ Refusal) (v : List ℕ). (u, v)) (numbered-one x y (p.0 ∙ sym q.0)) (p.1 ∙ sym q.1)
 
-number-one : Coincide 0 number-kinds.ps number-kinds.r number.Post (λ κs x s. x)
-number-one κs a x y s t p q = p ∙ sym q
-
-refusal-number-one : Coincide 0 refusal-number-kinds.ps refusal-number-kinds.r refusal-number.Post (λ κs x s. x)
+refusal-number-one : Coincide 1 refusal-number-kinds.ps refusal-number-kinds.r refusal-number.Post (λ κs x s. x)
 refusal-number-one κs a x y s t p q = p ∙ sym q
 
 finite-limits-one : Coincide 0 finite-limits-kinds.ps finite-limits-kinds.r finite-limits.Post (λ κs x s. x)

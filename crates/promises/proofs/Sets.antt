@@ -21,14 +21,8 @@ use Rattle.sets.proofs.RuleSet.contains.Reads as contains
 use Rattle.sets.proofs.RuleSet.contains.Kinds as contains-kinds
 use Rattle.sets.proofs.RuleSet.len.Reads as len
 use Rattle.sets.proofs.RuleSet.len.Kinds as len-kinds
-use Rattle.sets.proofs.Refusal.number.Reads as refusal-number
-use Rattle.sets.proofs.Refusal.number.Kinds as refusal-number-kinds
-use Rattle.sets.proofs.Chosen.number.Reads as chosen-number
-use Rattle.sets.proofs.Chosen.number.Kinds as chosen-number-kinds
-use Rattle.sets.proofs.Contained.number.Reads as contained-number
-use Rattle.sets.proofs.Contained.number.Kinds as contained-number-kinds
-use Rattle.sets.proofs.Counted.number.Reads as counted-number
-use Rattle.sets.proofs.Counted.number.Kinds as counted-number-kinds
+use Rattle.sets.proofs.RefusalNumbered.number.Reads as refusal-number
+use Rattle.sets.proofs.RefusalNumbered.number.Kinds as refusal-number-kinds
 use Rattle.sets.proofs.Test.bit.Reads as bit
 use Rattle.sets.proofs.Test.bit.Kinds as bit-kinds
 use Rattle.sets.proofs.Test.from_bit.Reads as from-bit
@@ -66,17 +60,8 @@ contains-one κs a x y s t p q = contained-one x y (p ∙ sym q)
 len-one : Coincide 0 len-kinds.ps len-kinds.r len.Post (λ κs x s. x)
 len-one κs a x y s t p q = counted-one x y (p ∙ sym q)
 
-refusal-number-one : Coincide 0 refusal-number-kinds.ps refusal-number-kinds.r refusal-number.Post (λ κs x s. x)
+refusal-number-one : Coincide 1 refusal-number-kinds.ps refusal-number-kinds.r refusal-number.Post (λ κs x s. x)
 refusal-number-one κs a x y s t p q = p ∙ sym q
-
-chosen-number-one : Coincide 0 chosen-number-kinds.ps chosen-number-kinds.r chosen-number.Post (λ κs x s. x)
-chosen-number-one κs a x y s t p q = p ∙ sym q
-
-contained-number-one : Coincide 0 contained-number-kinds.ps contained-number-kinds.r contained-number.Post (λ κs x s. x)
-contained-number-one κs a x y s t p q = p ∙ sym q
-
-counted-number-one : Coincide 0 counted-number-kinds.ps counted-number-kinds.r counted-number.Post (λ κs x s. x)
-counted-number-one κs a x y s t p q = p ∙ sym q
 
 bit-one : Coincide 0 bit-kinds.ps bit-kinds.r bit.Post (λ κs x s. x)
 bit-one κs a x y s t p q = p ∙ sym q

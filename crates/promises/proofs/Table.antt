@@ -8,16 +8,16 @@ use lib.Dec.{eqb}
 use lib.Ieee.{Float, nan, binary64, of_bits, to_bits, of_int, round, add, sub, mul, div, lt, le}
 use lib.IntN.{pos}
 use lib.ListN.{length, replicate}
+use Rattle.std.specs.Prelude.{Result, Ok, Err}
 use Rattle.laws.specs.Bools.{every, count}
 use Rattle.laws.specs.Bits.{has_bit, from_bits}
 use Rattle.laws.specs.Lists.{tabulate_from}
 use Rattle.laws.specs.Front.{at_front_if_room, room_for, lent_after}
 use Rattle.laws.specs.Refusals.{first_of, each}
-use Rattle.groups.specs.declared.Reading.{Reading}
-use Rattle.groups.specs.declared.Reading.TheVariants.{Number, Fault}
+use Rattle.groups.specs.declared.Read.{Read}
+use Rattle.groups.specs.declared.Fault.{Fault}
 use Rattle.groups.specs.Groups.{groups, number_at}
-use Rattle.root.specs.declared.Rooted.{Rooted}
-use Rattle.root.specs.declared.Rooted.TheVariants as rooted
+use Rattle.root.specs.declared.NoRoot.{NoRoot}
 use Rattle.root.specs.Root.{root_of}
 use Rattle.stops.specs.Stops.{stop_at, cut_at, rising, stops_wrong}
 use Rattle.sets.specs.Sets.{bit_of, tests, has, set_of}
@@ -187,13 +187,13 @@ sheeting values set bytes =
     && same (room_after (unstopped usual) set values (room bytes)) (filled bytes)
     && eqb (check_of (unstopped usual) set values bytes).0 0
 
-is_number : ℕ → ℕ → Reading → Bool
-is_number n end (Number v next) = eqb v n && eqb next end
-is_number n end (Fault p) = false
+is_number : ℕ → ℕ → Result (Read ℕ) Fault → Bool
+is_number n end (Ok number) = eqb number.value n && eqb number.next end
+is_number n end (Err fault) = false
 
-is_fault : Reading → Bool
-is_fault (Number v next) = false
-is_fault (Fault p) = eqb p 0
+is_fault : Result (Read ℕ) Fault → Bool
+is_fault (Ok number) = false
+is_fault (Err fault) = eqb fault.at 0
 
 -- `write_number` gives the bytes, and `read_number` the number
 numbering : ℕ → List ℕ → Bool
@@ -204,10 +204,10 @@ numbering n bytes =
     && same (at_front_if_room (groups n) (room bytes)) (filled bytes)
     && is_number n (length bytes) (number_at bytes 0)
 
-is_root : ℕ → Rooted → Bool
+is_root : ℕ → Result Float NoRoot → Bool
 unfolding to_bits
-is_root y (rooted.Root r) = eqb (to_bits binary64 r) y
-is_root y rooted.Refused = false
+is_root y (Ok r) = eqb (to_bits binary64 r) y
+is_root y (Err why) = false
 
 -- individuals, two observations
 two : Chart

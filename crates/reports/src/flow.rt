@@ -103,6 +103,7 @@ fn read_values(s: &[u8], from: usize, chart: Chart, values: &mut [f64]) -> Resul
 
 // Reads a flow file. The values stand at the front of the room afterwards; where the file is refused, the room holds what
 // was read so far.
+#[tactic(auto, unfolding(crate::specs::Flow::flow_of))]
 pub fn read_flow(s: &[u8], values: &mut [f64]) -> Result<Chart, Refusal>
     requires { 2048 ≤ length values.old }
     ensures said { flow_of s.now ≡ said_flow values.new result }

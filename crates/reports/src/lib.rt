@@ -41,8 +41,8 @@ fn first_index(chart: Chart) -> u64
     u64::from(chart.kind == INDIVIDUALS)
 }
 
-// Writes the text of an evaluated chart, told the marks of both series. That it is counted first and then written, as in `refuse`,
-// is not shared: a closure that lends the room would have to say all of `Put` again.
+// Writes the text of an evaluated chart, told the marks of both series. That it is counted first and then written, as in
+// `refuse`, is not shared: a closure that is lent the room would have to say all of `Put` again.
 fn tell(
     chart: Chart,
     e: Evaluation,

@@ -14,6 +14,7 @@ use evaluating::Evaluation;
 use rules::Limits;
 
 // The character of a digit.
+#[tactic(auto, unfolding(crate::specs::Text::glyph))]
 fn glyph(d: u64) -> u8
     requires { d < 16 }
     ensures { result ≡ glyph_of d }

@@ -1,12 +1,9 @@
 -- What the file of pairs holds. Definitions only.
-use Rattle.std.specs.Prelude.{List, ℕ, zero, suc, ◌≡◌, ◌+◌, ◌*◌, ◌^◌, ◌≤◌, ◌<◌, ◌==◌, cond, get_or, take, drop, length}
+use Rattle.std.specs.Prelude.{List, ℕ, zero, suc, ◌≡◌, ◌+◌, ◌*◌, ◌^◌, ◌≤◌, ◌==◌, cond, get_or, take, drop, length, Float, Result, Ok, Err}
 use Rattle.std.specs.Float.{binary64}
 use Rattle.std.specs.Float.Ieee.{of_bits, to_bits}
 use Rattle.root.specs.Root.{root_of}
-use Rattle.root.specs.declared.Rooted.{Rooted}
-use Rattle.root.specs.declared.Rooted.TheVariants.{Root, Refused}
-use Rattle.root_run.specs.declared.Pair.{Pair}
-use Rattle.root_run.specs.declared.Pair.TheVariants.{Bits, End, Cut}
+use Rattle.root.specs.declared.NoRoot.{NoRoot}
 
 -- the number that eight bytes hold, low byte first
 abbrev pub byte_at : List ℕ → ℕ → ℕ
@@ -16,9 +13,9 @@ abbrev pub little : List ℕ → ℕ
 little a = byte_at a 0 + byte_at a 1 + byte_at a 2 + byte_at a 3 + byte_at a 4 + byte_at a 5 + byte_at a 6 + byte_at a 7
 
 -- an answer: the bits of the root, or every bit set where it is refused
-abbrev pub stored : Rooted → ℕ
-stored (Root r) = to_bits binary64 r
-stored Refused = 0xffffffffffffffff
+abbrev pub stored : Result Float NoRoot → ℕ
+stored (Ok r) = to_bits binary64 r
+stored (Err why) = 0xffffffffffffffff
 
 -- the number at the front of some bytes, and what they hold of its root
 abbrev pub number_of : List ℕ → ℕ
@@ -36,8 +33,6 @@ unfoldable pub differing : List ℕ → ℕ → ℕ
 differing file zero = 0
 differing file (suc k) = differing file k + differs (drop (16 * k) file)
 
--- what stands at the front of the bytes that are left: two numbers, nothing, or a part of a pair
-abbrev pub Fronts : List ℕ → Pair → Type 0
-Fronts rest (Bits x root) = (16 ≤ length rest) × (x ≡ number_of rest) × (root ≡ root_beside rest)
-Fronts rest End = length rest ≡ 0
-Fronts rest (Cut n) = (n ≡ length rest) × (0 < n) × (n < 16)
+-- the pair at the front of the bytes that are left
+abbrev pub Fronts : List ℕ → ℕ × ℕ → Type 0
+Fronts rest pair = (16 ≤ length rest) × (pair.0 ≡ number_of rest) × (pair.1 ≡ root_beside rest)

@@ -3,87 +3,48 @@
 // the processor's own instruction gave it, or every bit set where the root is refused.
 #![tactic(auto)]
 
-ghost use Rattle.std.specs.Prelude.{◌≡◌, ◌+◌, ◌*◌, ◌/◌, ◌%◌, ◌^◌, ◌≤◌, ◌<◌, length};
+ghost use Rattle.std.specs.Prelude.{◌≡◌, ◌/◌, ◌%◌, ◌≤◌, ◌<◌, length, MatchOption};
 ghost use Rattle.std.specs.Float.{binary64};
 ghost use Rattle.std.specs.Float.Ieee.{of_bits};
 ghost use Rattle.root.specs.Root.{root_of};
-ghost use Rattle.root_run.specs.Pairs.{stored, little, differing, Fronts};
+ghost use Rattle.root_run.specs.Pairs.{stored, differing, Fronts};
 
-use root::Rooted;
+use root::NoRoot;
 use std::process::ExitCode;
 use std::{fs, io};
 
 // What the file holds where the root is refused.
 const REFUSED: u64 = 0xffff_ffff_ffff_ffff;
 
-// The number whose bits are b. A NaN cannot be made from its bits, so it is made by a division.
-fn number(b: u64) -> f64
-    ensures { result ≡ of_bits binary64 b }
-{
-    if b & 0x7fff_ffff_ffff_ffff > 0x7ff0_0000_0000_0000 {
-        return 0.0 / 0.0;
-    }
-    f64::from_bits(b)
-}
-
 // What the file ought to hold for the number whose bits are b.
 fn answer(b: u64) -> u64
     ensures { result ≡ stored (root_of (of_bits binary64 b)) }
 {
-    match root::root(number(b)) {
-        Rooted::Root(r) => f64::to_bits(r),
-        Rooted::Refused => REFUSED,
+    match root::root(floats::of_bits(b)) {
+        Ok(r) => f64::to_bits(r),
+        Err(NoRoot) => REFUSED,
     }
-}
-
-// Four bytes as a number, low byte first.
-fn four(a: u8, b: u8, c: u8, d: u8) -> u64
-    ensures { (result ≡ a + b * 2 ^ 8 + c * 2 ^ 16 + d * 2 ^ 24) × (result < 2 ^ 32) }
-{
-    a as u64 + b as u64 * 0x100 + c as u64 * 0x1_0000 + d as u64 * 0x100_0000
-}
-
-// Eight bytes as a number, low byte first.
-fn word(a: &[u8; 8]) -> u64
-    ensures { result ≡ little a.now }
-{
-    four(a[0], a[1], a[2], a[3]) + four(a[4], a[5], a[6], a[7]) * 0x1_0000_0000
-}
-
-// The next pair of the file; its end; or, where the file ends inside a pair, how many bytes of that
-// pair there are.
-#[derive(Clone, Copy)]
-enum Pair {
-    Bits(u64, u64),
-    End,
-    Cut(u64),
 }
 
 // How many bytes a pair has.
 const PAIR: usize = 16;
 
-// The pair at the front of what is left of the file.
-fn read_pair(rest: &[u8]) -> Pair
-    ensures { Fronts rest.now result }
+// The pair at the front of what is left of the file; none where that is shorter than one.
+fn first_pair(rest: &[u8]) -> Option<(u64, u64)>
+    ensures { MatchOption result (length rest.now < 16) (λ pair. Fronts rest.now pair) }
 {
-    if let Some((x, after)) = rest.split_first_chunk::<8>()
-        && let Some(root) = after.first_chunk::<8>()
-    {
-        return Pair::Bits(word(x), word(root));
-    }
-    if rest.is_empty() {
-        return Pair::End;
-    }
-    Pair::Cut(rest.len() as u64)
+    let (x, after) = rest.split_first_chunk::<8>()?;
+    let root = after.first_chunk::<8>()?;
+    Some((u64::from_le_bytes(*x), u64::from_le_bytes(*root)))
 }
 
-// How many pairs were compared and how many of them differ, which pair is the first of those,
+// How many pairs were compared and how many of them differ, which pair is the first of those, if any,
 // counted from 0, and how many bytes of a pair are left over at the end of the file.
 #[derive(Clone, Copy)]
 struct Tally {
     pairs: u64,
     differ: u64,
-    first: u64,
+    first: Option<u64>,
     cut: u64,
 }
 
@@ -97,32 +58,20 @@ fn compare(file: &[u8]) -> Tally
     let mut rest = file;
     let mut pairs: u64 = 0;
     let mut differ: u64 = 0;
-    let mut first: u64 = 0;
-    let mut cut: u64 = 0;
-    loop {
-        match read_pair(rest) {
-            Pair::Bits(x, root) => {
-                if answer(x) != root {
-                    if differ == 0 {
-                        first = pairs;
-                    }
-                    differ += 1;
-                }
-                pairs += 1;
-                rest = &rest[PAIR..];
-            }
-            Pair::End => break,
-            Pair::Cut(bytes) => {
-                cut = bytes;
-                break;
-            }
+    let mut first: Option<u64> = None;
+    while let Some((x, root)) = first_pair(rest) {
+        if answer(x) != root {
+            first = first.or(Some(pairs));
+            differ += 1;
         }
+        pairs += 1;
+        rest = &rest[PAIR..];
     }
     Tally {
         pairs,
         differ,
         first,
-        cut,
+        cut: rest.len() as u64,
     }
 }
 
@@ -135,8 +84,8 @@ fn say(rt: &impl Print, before: &str, n: u64, after: &str) -> io::Result<()> {
 fn tell(rt: &impl Print, t: Tally) -> io::Result<()> {
     say(rt, "", t.pairs, " roots, ")?;
     say(rt, "", t.differ, " differ\n")?;
-    if t.differ > 0 {
-        say(rt, "the first at pair ", t.first, "\n")?;
+    if let Some(first) = t.first {
+        say(rt, "the first at pair ", first, "\n")?;
     }
     if t.cut > 0 {
         say(rt, "the file is cut in pair ", t.pairs, "")?;

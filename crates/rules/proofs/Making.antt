@@ -18,7 +18,7 @@ use Rattle.laws.specs.Front.{at_front}
 use Rattle.laws.proofs.Filling.{Tabling}
 use Rattle.laws.proofs.Lending.{lent, regained}
 use Rattle.rules.specs.declared.Lines.{Lines}
-use Rattle.rules.specs.Codes.{picked, zone_at, inside_at, step_at, asks, Coded, Added, Clear, code_of, code_at, CodesOf}
+use Rattle.rules.specs.Codes.{picked, zone_code, inside_code, step_code, family_at, asks, Coded, Added, Clear, code_of, code_at, CodesOf}
 use Rattle.rules.proofs.Parts.{lent_at, regained-at, regained-before}
 
 -- while a table is written, the entry to be written next is as it was
@@ -169,12 +169,12 @@ coded f n old now clear a = record {
 -- and so they have what all families put into them
 pub codes-by : (set : ℕ) (l : Lines) (u : Float) (vs : List Float) (n : ℕ) (k0 k1 k2 k3 k4 k5 k6 : List ℕ)
     → Clear k0
-    → Added (zone_at (asks set 1) l.ucl l.lcl 1 1 vs) n k0 k1
-    → Added (zone_at (asks set 258) l.cl l.cl 258 16896 vs) n k1 k2
-    → Added (zone_at (asks set 16) l.above2 l.below2 16 4096 vs) n k2 k3
-    → Added (zone_at (asks set 160) l.above1 l.below1 160 8320 vs) n k3 k4
-    → Added (inside_at (asks set 64) l.above1 l.below1 vs) n k4 k5
-    → Added (step_at (asks set 12) u vs) n k5 k6
+    → Added (family_at (λ u v. zone_code l.ucl l.lcl 1 1 v) (asks set 1) u vs) n k0 k1
+    → Added (family_at (λ u v. zone_code l.cl l.cl 258 16896 v) (asks set 258) u vs) n k1 k2
+    → Added (family_at (λ u v. zone_code l.above2 l.below2 16 4096 v) (asks set 16) u vs) n k2 k3
+    → Added (family_at (λ u v. zone_code l.above1 l.below1 160 8320 v) (asks set 160) u vs) n k3 k4
+    → Added (family_at (λ u v. inside_code l.above1 l.below1 v) (asks set 64) u vs) n k4 k5
+    → Added (family_at step_code (asks set 12) u vs) n k5 k6
     → Coded (code_at set l u vs) n k6
 unfolding code_of
 codes-by set l u vs n k0 k1 k2 k3 k4 k5 k6 clear e1 e2 e3 e4 e5 e6 = record {

@@ -30,15 +30,10 @@ inside_code high low v = picked (le low v && le v high) 64
 unfoldable pub step_code : Float → Float → ℕ
 step_code u v = bit_or (picked (rise u v) 12) (picked (fall u v) 3072)
 
--- The same at entry i of some values, where it is needed. Before them comes u: what comes before entry i is entry i of the longer list.
-abbrev pub zone_at : Bool → Float → Float → ℕ → ℕ → List Float → ℕ → ℕ
-zone_at need high low up down vs i = picked need (zone_code high low up down (get_or vs i nan))
-
-abbrev pub inside_at : Bool → Float → Float → List Float → ℕ → ℕ
-inside_at need high low vs i = picked need (inside_code high low (get_or vs i nan))
-
-abbrev pub step_at : Bool → Float → List Float → ℕ → ℕ
-step_at need u vs i = picked need (step_code (get_or (u ∷ vs) i nan) (get_or vs i nan))
+-- What a family makes of entry i of some values and of what comes before it, where it is needed. Before them comes u: what comes before
+-- entry i is entry i of the longer list.
+abbrev pub family_at : (Float → Float → ℕ) → Bool → Float → List Float → ℕ → ℕ
+family_at code need u vs i = picked need (code (get_or (u ∷ vs) i nan) (get_or vs i nan))
 
 -- the set has a test of those of the number `family`
 abbrev pub asks : ℕ → ℕ → Bool

@@ -2,13 +2,13 @@
 // it. The marks of a position are ands and ors of the fifteen codes that end there, so all tests are read off at once, and
 // neither making nor reading codes branches on a value: several values go through each instruction.
 //
-// - `zones`, `insides` and `steps` put the bits of a family (a pair of lines, or the steps) into the codes of all values, sixteen
-//   at a time, and do nothing for a family that the set has no test of; `families` goes through all six.
+// - `put` puts the bits of a family (a pair of lines, or the steps) into the codes of all values, sixteen at a time, and does
+//   nothing for a family that the set has no test of; `families` goes through all six.
 // - `standing` reads the tests off fifteen codes. What stands before the first value is free: `fit` takes from the first
 //   fourteen marks the tests whose window does not fit there.
 // - `block` marks up to some 500 positions in a room of codes that is clear, by their values and the fourteen before them; `fill`
 //   gives short series one block with a small room, and a set of the first test alone a loop without codes.
-ghost use Rattle.std.specs.Prelude.{◌≡◌, true, [], ◌∷◌, ℕ, ◌+◌, ◌-◌, ◌≤◌, ◌<◌, length, get_or};
+ghost use Rattle.std.specs.Prelude.{◌≡◌, true, [], ◌∷◌, ℕ, Float, ◌+◌, ◌-◌, ◌≤◌, ◌<◌, length, get_or};
 ghost use Rattle.std.specs.Int.Bits.{bit_and};
 ghost use Rattle.std.specs.Float.{nan};
 ghost use Rattle.laws.specs.Bits.{from_bits};
@@ -16,7 +16,7 @@ ghost use Rattle.laws.specs.Lists.{tabulate};
 ghost use Rattle.laws.specs.Front.{at_front};
 ghost use Rattle.stops.specs.Cuts.{unbroken};
 ghost use Rattle.rules.specs.Marking.{marks_at, marks_by};
-ghost use Rattle.rules.specs.Codes.{picked, zone_code, inside_code, step_code, zone_at, inside_at, step_at, Coded, Added, Clear, CodesOf, packed_bits, read_codes, last_of, marks_read, fits_at};
+ghost use Rattle.rules.specs.Codes.{picked, zone_code, inside_code, step_code, family_at, Coded, Added, Clear, CodesOf, packed_bits, read_codes, last_of, marks_read, fits_at};
 
 use super::Lines;
 
@@ -45,71 +45,73 @@ fn pick(b: bool, k: u16) -> u16
     0
 }
 
-// How the value v lies outside two lines.
-fn zone_code(high: f64, low: f64, up: u16, down: u16, v: f64) -> u16
-    ensures { result ≡ zone_code high low up down v }
-{
-    pick(high < v, up) | pick(v < low, down)
+// What the tests of a family tell of the value v, which comes after u.
+trait Family: Copy {
+    ghost code: { Self → Float → Float → ℕ };
+
+    fn code(self, u: f64, v: f64) -> u16
+        ensures { result ≡ code self u v };
 }
 
-// Whether the value v lies outside neither.
-fn inside_code(high: f64, low: f64, v: f64) -> u16
-    ensures { result ≡ inside_code high low v }
-{
-    pick((low <= v) & (v <= high), 0x0040)
+// How a value lies outside two lines.
+#[derive(Clone, Copy)]
+struct Zone {
+    high: f64,
+    low: f64,
+    up: u16,
+    down: u16,
 }
 
-// How the value v lies to u, which comes before it.
-fn step_code(u: f64, v: f64) -> u16
-    ensures { result ≡ step_code u v }
-{
-    pick(u < v, 0x000c) | pick(v < u, 0x0c00)
+// Whether it lies outside neither.
+#[derive(Clone, Copy)]
+struct Inside {
+    high: f64,
+    low: f64,
 }
 
-// How sixteen values lie outside two lines. The codes go into an array of their own, and not into a slice: then nothing that is
-// written can be one of the values, and LLVM compares and packs eight of them at a time.
-fn zones_of(high: f64, low: f64, up: u16, down: u16, v: &[f64]) -> [u16; 16]
-    requires { length v.now ≡ 16 }
-    ensures { Coded (zone_at true high low up down v.now) 16 result }
-{
-    let mut k = [0u16; 16];
-    let mut j = 0;
-    while j < 16 {
-        let x = v[j];
-        k[j] = k[j] | zone_code(high, low, up, down, x);
-        j += 1;
+// How it lies to the one before it.
+#[derive(Clone, Copy)]
+struct Step;
+
+impl Family for Zone {
+    ghost code = { λ zone u v. zone_code zone.high zone.low zone.up zone.down v };
+
+    #[tactic(auto, unfolding(crate::specs::Codes::zone_code))]
+    fn code(self, _u: f64, v: f64) -> u16 {
+        pick(self.high < v, self.up) | pick(v < self.low, self.down)
     }
-    k
 }
 
-// Whether they lie outside neither.
-fn insides_of(high: f64, low: f64, v: &[f64]) -> [u16; 16]
-    requires { length v.now ≡ 16 }
-    ensures { Coded (inside_at true high low v.now) 16 result }
-{
-    let mut k = [0u16; 16];
-    let mut j = 0;
-    while j < 16 {
-        let x = v[j];
-        k[j] = k[j] | inside_code(high, low, x);
-        j += 1;
+impl Family for Inside {
+    ghost code = { λ inside u v. inside_code inside.high inside.low v };
+
+    #[tactic(auto, unfolding(crate::specs::Codes::inside_code))]
+    fn code(self, _u: f64, v: f64) -> u16 {
+        pick((self.low <= v) & (v <= self.high), 0x0040)
     }
-    k
 }
 
-// How each lies to the one before it; `first` comes before the first.
-fn steps_of(first: f64, v: &[f64]) -> [u16; 16]
+impl Family for Step {
+    ghost code = { λ step u v. step_code u v };
+
+    #[tactic(auto, unfolding(crate::specs::Codes::step_code))]
+    fn code(self, u: f64, v: f64) -> u16 {
+        pick(u < v, 0x000c) | pick(v < u, 0x0c00)
+    }
+}
+
+// What a family tells of sixteen values; `first` comes before the first. The codes go into an array of their own, and not into a
+// slice: then nothing that is written can be one of the values, and LLVM compares and packs eight of them at a time.
+fn codes_of<F: Family>(family: F, first: f64, v: &[f64]) -> [u16; 16]
     requires { length v.now ≡ 16 }
-    ensures { Coded (step_at true first v.now) 16 result }
+    ensures { Coded (family_at (F.code family) true first v.now) 16 result }
 {
     let mut k = [0u16; 16];
     let mut u = first;
-    let mut j = 0;
-    while j < 16 {
+    for j in 0..16 {
         let x = v[j];
-        k[j] = k[j] | step_code(u, x);
+        k[j] = k[j] | family.code(u, x);
         u = x;
-        j += 1;
     }
     k
 }
@@ -119,10 +121,8 @@ fn join(k: &[u16; 16], c: &mut [u16])
     requires { 16 ≤ length c.old }
     ensures { Added (λ j. get_or k.now j 0) 16 c.old c.new }
 {
-    let mut j = 0;
-    while j < 16 {
+    for j in 0..16 {
         c[j] = c[j] | k[j];
-        j += 1;
     }
 }
 
@@ -149,10 +149,11 @@ fn before(values: &[f64], i: usize) -> f64
     values[i - 1]
 }
 
-// How all values lie outside two lines, put into their codes where a test asks for it.
-fn zones(need: bool, high: f64, low: f64, up: u16, down: u16, values: &[f64], c: &mut [u16])
+// What a family tells of all values, put into their codes where a test asks for it. It goes by sixteens, of which the last may begin
+// before the one ahead of it ends: no iterator of the library does.
+fn put<F: Family>(need: bool, family: F, values: &[f64], c: &mut [u16])
     requires { (16 ≤ length values.now) × (length values.now ≤ length c.old) }
-    ensures { Added (zone_at need high low up down values.now) (length values.now) c.old c.new }
+    ensures { Added (family_at (F.code family) need (get_or values.now 0 nan) values.now) (length values.now) c.old c.new }
 {
     if !need {
         return;
@@ -162,44 +163,23 @@ fn zones(need: bool, high: f64, low: f64, up: u16, down: u16, values: &[f64], c:
     while i < n {
         let e = next(i, n);
         let s = e - 16;
-        join(&zones_of(high, low, up, down, &values[s..e]), &mut c[s..]);
+        join(
+            &codes_of(family, before(values, s), &values[s..e]),
+            &mut c[s..],
+        );
         i = e;
     }
 }
 
-// Whether they lie outside neither.
-fn insides(need: bool, high: f64, low: f64, values: &[f64], c: &mut [u16])
-    requires { (16 ≤ length values.now) × (length values.now ≤ length c.old) }
-    ensures { Added (inside_at need high low values.now) (length values.now) c.old c.new }
+// The family of two lines.
+fn outside(high: f64, low: f64, up: u16, down: u16) -> Zone
+    ensures { result ≡ record { high = high; low = low; up = up; down = down } }
 {
-    if !need {
-        return;
-    }
-    let n = values.len();
-    let mut i = 0;
-    while i < n {
-        let e = next(i, n);
-        let s = e - 16;
-        join(&insides_of(high, low, &values[s..e]), &mut c[s..]);
-        i = e;
-    }
-}
-
-// How each lies to the one before it.
-fn steps(need: bool, values: &[f64], c: &mut [u16])
-    requires { (16 ≤ length values.now) × (length values.now ≤ length c.old) }
-    ensures { Added (step_at need (get_or values.now 0 nan) values.now) (length values.now) c.old c.new }
-{
-    if !need {
-        return;
-    }
-    let n = values.len();
-    let mut i = 0;
-    while i < n {
-        let e = next(i, n);
-        let s = e - 16;
-        join(&steps_of(before(values, s), &values[s..e]), &mut c[s..]);
-        i = e;
+    Zone {
+        high,
+        low,
+        up,
+        down,
     }
 }
 
@@ -208,28 +188,20 @@ fn families(set: u16, l: Lines, values: &[f64], c: &mut [u16])
     requires { (16 ≤ length values.now) × (length values.now ≤ length c.old) × Clear c.old }
     ensures { CodesOf set l values.now c.new }
 {
-    zones(set & LIMITS != 0, l.ucl, l.lcl, 0x0001, 0x0001, values, c);
-    zones(set & CENTRE != 0, l.cl, l.cl, 0x0102, 0x4200, values, c);
-    zones(
-        set & TWO_SIGMA != 0,
-        l.above2,
-        l.below2,
-        0x0010,
-        0x1000,
-        values,
-        c,
-    );
-    zones(
-        set & ONE_SIGMA != 0,
-        l.above1,
-        l.below1,
-        0x00a0,
-        0x2080,
-        values,
-        c,
-    );
-    insides(set & INSIDE != 0, l.above1, l.below1, values, c);
-    steps(set & STEPS != 0, values, c);
+    let limits = outside(l.ucl, l.lcl, 0x0001, 0x0001);
+    let centre = outside(l.cl, l.cl, 0x0102, 0x4200);
+    let two_sigma = outside(l.above2, l.below2, 0x0010, 0x1000);
+    let one_sigma = outside(l.above1, l.below1, 0x00a0, 0x2080);
+    let inside = Inside {
+        high: l.above1,
+        low: l.below1,
+    };
+    put(set & LIMITS != 0, limits, values, c);
+    put(set & CENTRE != 0, centre, values, c);
+    put(set & TWO_SIGMA != 0, two_sigma, values, c);
+    put(set & ONE_SIGMA != 0, one_sigma, values, c);
+    put(set & INSIDE != 0, inside, values, c);
+    put(set & STEPS != 0, Step, values, c);
 }
 
 // Up to sixteen values at the front of sixteen.
@@ -238,11 +210,7 @@ fn pad(values: &[f64], v: &mut [f64; 16])
     ensures values { v.new ≡ at_front values.now v.old }
     ensures sixteen { length v.new ≡ 16 }
 {
-    let mut j = 0;
-    while j < values.len() {
-        v[j] = values[j];
-        j += 1;
-    }
+    v[..values.len()].copy_from_slice(values);
 }
 
 // The codes of every value, from the front of `c` on, which is clear. Fewer than sixteen are padded.
@@ -257,16 +225,6 @@ fn codes(set: u16, l: Lines, values: &[f64], c: &mut [u16])
         return;
     }
     families(set, l, values, c);
-}
-
-// The smaller of two.
-pub fn least(a: usize, b: usize) -> usize
-    ensures { (result ≤ a) × (result ≤ b) × ((i : ℕ) → i < a → i < b → i < result) }
-{
-    if a < b {
-        return a;
-    }
-    b
 }
 
 // The tests by their bits: of two signals, one and the one eight places above.
@@ -345,51 +303,14 @@ fn standing_at(c: &[u16], i: usize) -> u16
     )
 }
 
-// The marks of m positions, read off the fifteen codes that end at each, wherever their windows reach.
-fn read_all(set: u16, c: &[u16], m: usize, out: &mut [u16])
+// The marks of m positions, read off the fifteen codes that end at each, wherever their windows reach. What is kept of the set is a
+// constant, so that LLVM leaves out what only the other tests are for.
+fn read<const KEPT: u16>(set: u16, c: &[u16], m: usize, out: &mut [u16])
     requires { (m + 14 ≤ length c.now) × (m ≤ length out.old) }
-    ensures { out.new ≡ at_front (tabulate (marks_read set c.now) m) out.old }
+    ensures { out.new ≡ at_front (tabulate (marks_read (bit_and set KEPT) c.now) m) out.old }
 {
-    let mut i = 0;
-    while i < m {
-        out[i] = set & standing_at(c, i);
-        i += 1;
-    }
-}
-
-// Those of short runs alone: the mask is written here, so that LLVM leaves out what only the other tests are for.
-fn read_runs(set: u16, c: &[u16], m: usize, out: &mut [u16])
-    requires { (m + 14 ≤ length c.now) × (m ≤ length out.old) }
-    ensures { out.new ≡ at_front (tabulate (marks_read (bit_and set 391) c.now) m) out.old }
-{
-    let mut i = 0;
-    while i < m {
-        out[i] = (set & RUNS) & standing_at(c, i);
-        i += 1;
-    }
-}
-
-// Those of the test within one sigma alone.
-fn read_inside(set: u16, c: &[u16], m: usize, out: &mut [u16])
-    requires { (m + 14 ≤ length c.now) × (m ≤ length out.old) }
-    ensures { out.new ≡ at_front (tabulate (marks_read (bit_and set 64) c.now) m) out.old }
-{
-    let mut i = 0;
-    while i < m {
-        out[i] = (set & INSIDE) & standing_at(c, i);
-        i += 1;
-    }
-}
-
-// Those of the steps alone.
-fn read_steps(set: u16, c: &[u16], m: usize, out: &mut [u16])
-    requires { (m + 14 ≤ length c.now) × (m ≤ length out.old) }
-    ensures { out.new ≡ at_front (tabulate (marks_read (bit_and set 12) c.now) m) out.old }
-{
-    let mut i = 0;
-    while i < m {
-        out[i] = (set & STEPS) & standing_at(c, i);
-        i += 1;
+    for i in 0..m {
+        out[i] = (set & KEPT) & standing_at(c, i);
     }
 }
 
@@ -399,18 +320,14 @@ fn read_marks(set: u16, c: &[u16], m: usize, out: &mut [u16])
     ensures { out.new ≡ at_front (tabulate (marks_read set c.now) m) out.old }
 {
     if set & RUNS == set {
-        read_runs(set, c, m, out);
-        return;
+        read::<RUNS>(set, c, m, out);
+    } else if set & INSIDE == set {
+        read::<INSIDE>(set, c, m, out);
+    } else if set & STEPS == set {
+        read::<STEPS>(set, c, m, out);
+    } else {
+        read::<{ u16::MAX }>(set, c, m, out);
     }
-    if set & INSIDE == set {
-        read_inside(set, c, m, out);
-        return;
-    }
-    if set & STEPS == set {
-        read_steps(set, c, m, out);
-        return;
-    }
-    read_all(set, c, m, out);
 }
 
 // The tests whose window fits at each of the first fourteen positions.
@@ -437,10 +354,8 @@ pub fn fit(from: usize, k: usize, out: &mut [u16])
     ensures { out.new ≡ at_front (tabulate (λ i. bit_and (get_or out.old i 0) (fits_at (from + i))) k) out.old }
 {
     let fits = FITS;
-    let mut i = 0;
-    while i < k {
+    for i in 0..k {
         out[i] = out[i] & fits[from + i];
-        i += 1;
     }
 }
 
@@ -453,7 +368,7 @@ fn block(l: Lines, set: u16, values: &[f64], p: usize, c: &mut [u16], out: &mut 
     let m = values.len() - p;
     codes(set, l, values, &mut c[free..]);
     read_marks(set, c, m, out);
-    fit(p, least(free, m), out);
+    fit(p, free.min(m), out);
 }
 
 // The marks of every position of few values: one block, so that little room has to be cleared.
@@ -473,9 +388,9 @@ fn mark_many(l: Lines, set: u16, values: &[f64], out: &mut [u16])
     let n = values.len();
     let mut at = 0;
     while at < n {
-        let p = least(at, 14);
+        let p = at.min(14);
         let start = at - p;
-        let end = at + least(n - at, 498);
+        let end = at + (n - at).min(498);
         let mut c = [0u16; 512];
         block(
             l,
@@ -494,11 +409,9 @@ fn mark_beyond(l: Lines, set: u16, values: &[f64], out: &mut [u16])
     requires { (set < 2) × (length values.now ≤ length out.old) }
     ensures { out.new ≡ at_front (marks_by unbroken l set values.now) out.old }
 {
-    let mut i = 0;
-    while i < values.len() {
+    for i in 0..values.len() {
         let v = values[i];
         out[i] = set & (((l.ucl < v) | (v < l.lcl)) as u16);
-        i += 1;
     }
 }
 

@@ -13,7 +13,7 @@ fn cut_before(q: usize, marks: &mut [u16])
     if n <= q {
         return;
     }
-    codes::fit(0, codes::least(14, n - q), &mut marks[q..]);
+    codes::fit(0, (n - q).min(14), &mut marks[q..]);
 }
 
 // Takes away what reaches over a stop.
@@ -32,9 +32,7 @@ fn cut_by_stop(p: usize, moving: bool, marks: &mut [u16])
 pub fn part(stops: &[usize], moving: bool, marks: &mut [u16])
     ensures { marks.new ≡ by_stops cut_marks stops.now moving marks.old }
 {
-    let mut i = 0;
-    while i < stops.len() {
-        cut_by_stop(stops[i], moving, marks);
-        i += 1;
+    for &p in stops {
+        cut_by_stop(p, moving, marks);
     }
 }

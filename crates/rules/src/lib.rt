@@ -33,7 +33,7 @@ pub struct Limits {
 }
 
 /// What a series is asked under.
-#[derive(Clone, Copy)]
+#[derive(Clone, Copy, Debug, PartialEq)]
 pub struct Terms<'a> {
     /// Its control limits.
     pub limits: Limits,
@@ -57,7 +57,7 @@ struct Widths {
 }
 
 /// The lines that the tests compare with: the limits, and one and two sigma above and below the centre line.
-#[derive(Clone, Copy)]
+#[derive(Clone, Copy, Debug, PartialEq)]
 pub struct Lines {
     pub ucl: f64,
     pub cl: f64,
@@ -83,7 +83,7 @@ pub fn window(t: Test) -> usize
 }
 
 /// Why a series is not marked, checked or written, or a value not taken.
-#[derive(Clone, Copy)]
+#[derive(Clone, Copy, Debug, PartialEq, Eq)]
 pub enum Refusal {
     /// There are more than 4,096 values (5).
     TooMany,
@@ -125,10 +125,7 @@ impl Numbered for Refusal {
 pub fn finite_limits(l: Limits) -> bool
     ensures { result ≡ finite_limits l }
 {
-    let upper = floats::is_finite(l.ucl);
-    let centre = floats::is_finite(l.cl);
-    let lower = floats::is_finite(l.lcl);
-    (upper & centre) & lower
+    floats::is_finite(l.ucl) & floats::is_finite(l.cl) & floats::is_finite(l.lcl)
 }
 
 // The zone widths of the limits, by the width mode.

@@ -11,7 +11,7 @@ use lib.Dec.{eqb, ltb}
 use lib.Ieee.{Float}
 use lib.ListN.{length, get_or, get_or-eq_default}
 use lib.Seq.{ext_get_or}
-use borrow.Author.Tests.{ltb-true, ltb-false, eq-eqb, eqb-true, eqb-false}
+use borrow.Author.Tests.{ltb-true, ltb-false, eqb-true, eqb-false}
 use Rattle.laws.specs.Refusals.{first_of}
 use Rattle.laws.proofs.Refusals.{passed}
 use Rattle.groups.specs.Groups.{groups}
@@ -27,6 +27,7 @@ use Rattle.sheets.specs.Said.{Said, fault, sheet}
 use Rattle.sheets.specs.Answers.{Verdict, first_wrong, judged}
 use Rattle.sheets.proofs.Points.{entries_of-none, entries_of-zero, entries_of-mark}
 use Rattle.sheets.proofs.Sheets.{Inside}
+use Rattle.sheets.proofs.Comparing.{all_right}
 use Rattle.sheets.proofs.Judging.{named-same}
 
 -- ---- no wrong marks
@@ -42,11 +43,6 @@ none-wrong i [] [] n e = refl
 none-wrong i [] (m ∷ ms) n e = absurd (omega arith)
 none-wrong i (r ∷ rs) [] n e = absurd (omega arith)
 none-wrong i (r ∷ rs) (m ∷ ms) n e = wrong-by (eqb r m) i r m rs ms refl e (λ f. none-wrong (suc i) rs ms (omega arith) f)
-
-all_right : (i : ℕ) (ms : List ℕ) → first_wrong i ms ms ≡ (0, 0, 0, 0)
-unfolding first_wrong
-all_right i [] = refl
-all_right i (m ∷ ms) = simp (eq-eqb m m refl) (all_right (suc i) ms)
 
 -- ---- acceptance
 

@@ -21,14 +21,13 @@ use Rattle.groups.proofs.Numbers.{Bytes}
 use Rattle.stops.specs.Stops.{stops_wrong, main_points}
 use Rattle.sets.specs.declared.Test.{Test}
 use Rattle.sets.specs.Sets.{has, largest}
-use Rattle.rules.specs.Terms.{Terms, under}
+use Rattle.std.specs.Prelude.{Ok}
+use Rattle.rules.specs.Terms.{Terms, told}
 use Rattle.floats.specs.Finite.{all_finite}
 use Rattle.rules.specs.Finite.{finite_limits}
 use Rattle.rules.specs.Marking.{newest_first, stands, cuts_of, lines_for, marks_of, most, refusal}
 use Rattle.rules.proofs.Accepted.{accepts}
 use Rattle.rules.proofs.Meaning.{marked, length-marks, marks-at}
-use Rattle.sheets.specs.declared.Checked.TheVariants.{Accepted}
-use Rattle.sheets.specs.declared.Written.TheVariants.{Sheet}
 use Rattle.sheets.specs.Said.{sheet, said}
 use Rattle.sheets.specs.Answers.{Verdict, checked, check_of, series_sheet, write_of, room_after}
 use Rattle.sheets.proofs.Sheets.{IsSheet, said-written, said-sound, well-formed}
@@ -124,7 +123,7 @@ module _ (terms : Terms) (set : ℕ) (values : List Float)
 
 -- ---- the same of the two functions: `Post` is what each promises of its result and of the lent room, told its arguments
 
--- (a), and with it (b): `check` answers `Accepted` exactly for the right sheet
+-- (a), and with it (b): `check` answers `Ok` exactly for the right sheet
 module _ (κs : Lfts 3) (a : Dens κs check-kinds.ps) (x : (res_t check-kinds.r κs).Denot)
     (s : AtExit (ended_of 3 check-kinds.ps check-kinds.r) κs)
     (promised : check.Post κs a x s) where
@@ -132,27 +131,27 @@ module _ (κs : Lfts 3) (a : Dens κs check-kinds.ps) (x : (res_t check-kinds.r 
   values = a.0.now
 
   abbrev terms : Terms
-  terms = under a.1.1.1.0 a.1.1.1.1.0 a.1.0.now a.1.1.0
+  terms = told a.1.0
 
   abbrev set : ℕ
-  set = a.1.1.1.1.1.0.mask
+  set = a.1.1.0.mask
 
   abbrev bytes : List ℕ
-  bytes = a.1.1.1.1.1.1.0.now
+  bytes = a.1.1.1.0.now
 
-  pub check-accepts : (x ≡ Accepted) ↔ (check_of terms set values bytes ≡ accepted)
-  check-accepts = ((λ e. sym promised ∙ ap checked e), (λ e. checked-one x Accepted (promised ∙ e)))
+  pub check-accepts : (x ≡ Ok tt) ↔ (check_of terms set values bytes ≡ accepted)
+  check-accepts = ((λ e. sym promised ∙ ap checked e), (λ e. checked-one x (Ok tt) (promised ∙ e)))
 
   module _ (few : length values ≤ most) (stopped : stops_wrong (main_points terms.moving (length values)) terms.stops ≡ false)
       (valid : set ≤ largest) (mode : terms.width ≤ 1) (sound : finite_limits terms.limits ≡ true) (finite : all_finite values ≡ true)
       (is-bytes : Bytes bytes) where
-    pub check-accepts-exactly : (x ≡ Accepted) ↔ Right terms set values bytes
+    pub check-accepts-exactly : (x ≡ Ok tt) ↔ Right terms set values bytes
     check-accepts-exactly =
         let both = accepted-exactly terms set values few stopped valid mode sound finite bytes is-bytes in
         ((λ e. both.0 (check-accepts.0 e)), (λ r. check-accepts.1 (both.1 r)))
 
     -- (b): of all bytes `check` accepts the one sheet, and no others
-    pub check-accepts-one : (x ≡ Accepted) ↔ (bytes ≡ series_sheet terms set values)
+    pub check-accepts-one : (x ≡ Ok tt) ↔ (bytes ≡ series_sheet terms set values)
     check-accepts-one =
         let one = one-accepted terms set values few stopped valid mode sound finite in (
           (λ e. one.2 bytes is-bytes (check-accepts.0 e)),
@@ -164,14 +163,14 @@ module _ (κs : Lfts 3) (a : Dens κs write-kinds.ps) (x : (res_t write-kinds.r 
     (s : AtExit (ended_of 3 write-kinds.ps write-kinds.r) κs)
     (promised : write.Post κs a x s) where
   abbrev its : List ℕ
-  its = series_sheet (under a.1.1.1.0 a.1.1.1.1.0 a.1.0.now a.1.1.0) a.1.1.1.1.1.0.mask a.0.now
+  its = series_sheet (told a.1.0) a.1.1.0.mask a.0.now
 
   abbrev room : List ℕ
-  room = a.1.1.1.1.1.1.0.now
+  room = a.1.1.1.0.now
 
-  pub write-gives-it : length a.0.now ≤ most → stops_wrong (main_points a.1.1.0 (length a.0.now)) a.1.0.now ≡ false
-      → a.1.1.1.1.1.0.mask ≤ largest → a.1.1.1.1.0 ≤ 1 → finite_limits a.1.1.1.0 ≡ true → all_finite a.0.now ≡ true
-      → length its ≤ length room → (x ≡ Sheet (length its)) × (s.1.1.1.1.1.1.0.now ≡ at_front its room)
+  pub write-gives-it : length a.0.now ≤ most → stops_wrong (main_points (told a.1.0).moving (length a.0.now)) (told a.1.0).stops ≡ false
+      → a.1.1.0.mask ≤ largest → (told a.1.0).width ≤ 1 → finite_limits (told a.1.0).limits ≡ true → all_finite a.0.now ≡ true
+      → length its ≤ length room → (x ≡ Ok (length its)) × (s.1.1.1.0.now ≡ at_front its room)
   write-gives-it few stopped valid mode sound finite holds =
       let gives = writer-gives-it _ _ a.0.now few stopped valid mode sound finite room holds in
-      (written_one x (Sheet _) (promised.0 ∙ gives.0), promised.1 ∙ gives.1)
+      (written_one x (Ok _) (promised.0 ∙ gives.0), promised.1 ∙ gives.1)

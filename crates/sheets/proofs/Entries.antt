@@ -11,11 +11,11 @@ use lib.Dec.{eqb, ltb, leb}
 use lib.ListN.{length, take, drop, get_or, set, replicate, length-set, length-replicate, take-append-drop, replicate-append-replicate}
 use lib.Seq.{take_at, drop_at, take-add, drop-drop, take-suc-set, drop-set-lt}
 use borrow.Author.Tests.{lt-ltb, le-ltb, ltb-false, leb-false, eqb-true, eqb-false, not-false}
-use Rattle.groups.specs.declared.Reading.TheVariants.{Number}
-use Rattle.groups.specs.Groups.{number_at}
+use Rattle.std.specs.Prelude.{Result, Ok, Err}
+use Rattle.groups.specs.declared.Fault.{Fault}
+use Rattle.groups.specs.Groups.{number_at, number_is}
 use Rattle.groups.proofs.Numbers.{read_one, read-two}
 use Rattle.sheets.specs.declared.reader.Entry.{Entry}
-use Rattle.sheets.specs.declared.reader.Entry.TheVariants.{Whole, Broken}
 use Rattle.sheets.specs.Said.{Said, fault, sheet, placed, entries}
 use Rattle.sheets.specs.declared.reader.Reach.{Reach}
 use Rattle.sheets.specs.Steps.{after_entry, FirstEntry, Fits, in_front, told_from, Blank, Onward}
@@ -23,20 +23,23 @@ use Rattle.sheets.proofs.Reading.{marks-inside}
 
 -- ---- one entry, or none
 
-module _ (s : List ℕ) (set left at k : ℕ) (e : Entry) (f : FirstEntry s set left at e) where
+abbrev pub entry_is : ℕ → ℕ → ℕ → Entry
+entry_is skip m next = record { skip = skip; marks = m; next = next }
+
+module _ (s : List ℕ) (set left at k : ℕ) (e : Result Entry Fault) (f : FirstEntry s set left at e) where
   turned : 0 < k → entries s set k left at ≡ after_entry s set left (k - 1) e
   turned h =
       let fewer : k ≡ suc (k - 1) = omega arith in
       ap (λ (n : ℕ). entries s set n left at) fewer ∙ f.goes (k - 1)
 
-  entry-broken : (p : ℕ) → e ≡ Broken p → 0 < k → entries s set k left at ≡ fault p
+  entry-broken : (p : Fault) → e ≡ Err p → 0 < k → entries s set k left at ≡ fault p.at
   entry-broken p is h = turned h ∙ ap (after_entry s set left (k - 1)) is
 
-  module _ (skip m next : ℕ) (is : e ≡ Whole skip m next) where
-    pub entry-fits : skip < left
+  module _ (entry : Entry) (is : e ≡ Ok entry) where
+    pub entry-fits : entry.skip < left
     entry-fits = subst (Fits left) is f.fits
 
-    entry_whole : 0 < k → entries s set k left at ≡ placed skip m (entries s set (k - 1) (left - suc skip) next)
+    entry_whole : 0 < k → entries s set k left at ≡ placed entry.skip entry.marks (entries s set (k - 1) (left - suc entry.skip) entry.next)
     entry_whole h = turned h ∙ ap (after_entry s set left (k - 1)) is
 
 module _ (s : List ℕ) (set left at k : ℕ) (none : k ≤ 0) where
@@ -96,11 +99,11 @@ module _ (s : List ℕ) (part : ℕ) where
 
   module _ (old : List ℕ) (from : Reach) (stated : List ℕ) (i at k : ℕ) (o : Onward s part old from stated (reach i at k)) where
     -- one entry more, however it was read
-    pub onward-turn : (e : Entry) (skip m next : ℕ) → FirstEntry s part (length stated - i) at e → e ≡ Whole skip m next → 0 < k
+    pub onward-turn : (e : Result Entry Fault) (skip m next : ℕ) → FirstEntry s part (length stated - i) at e → e ≡ Ok (entry_is skip m next) → 0 < k
         → Onward s part old from (set stated (i + skip) m) (reach (i + skip + 1) next (k - 1))
     onward-turn e skip m next f is h =
         let n = length stated in
-        let fits = entry-fits s part (n - i) at k e f skip m next is in
+        let fits = entry-fits s part (n - i) at k e f (entry_is skip m next) is in
         let long = length-set stated (i + skip) m in
         let few = o.fewer in
         let within = o.blank.within in
@@ -118,7 +121,7 @@ module _ (s : List ℕ) (part : ℕ) where
           long = long ∙ o.long;
           same =
               o.same
-              ∙ ap (in_front (take i stated)) (entry_whole s part (n - i) at k e f skip m next is h)
+              ∙ ap (in_front (take i stated)) (entry_whole s part (n - i) at k e f (entry_is skip m next) is h)
               ∙ placed-in-front (take i stated) skip m (entries s part (k - 1) (n - i - suc skip) next)
               ∙ ap₂ (λ (l : List ℕ) (j : ℕ). in_front l (entries s part (k - 1) j next)) (sym front) left;
           blank = record {
@@ -134,8 +137,8 @@ module _ (s : List ℕ) (part : ℕ) where
           fewer = omega arith;
         }
 
-    pub onward-broken : (e : Entry) (q : ℕ) → FirstEntry s part (length stated - i) at e → e ≡ Broken q → 0 < k
-        → fault q ≡ told_from s part old from
+    pub onward-broken : (e : Result Entry Fault) (q : Fault) → FirstEntry s part (length stated - i) at e → e ≡ Err q → 0 < k
+        → fault q.at ≡ told_from s part old from
     onward-broken e q f is h = sym (o.same ∙ ap (in_front (take i stated)) (entry-broken s part (length stated - i) at k e f q is h))
 
     pub onward-over : k ≤ 0 → at < length s → fault at ≡ told_from s part old from
@@ -158,25 +161,25 @@ or_above a b = let sum = or_add_and a b in let l = and_le_l a b in let r = and_l
 
 module _ (s : List ℕ) (set left at skip m : ℕ) (h : skip < left) (first : skip ≡ get_or s at 0) (low : skip < 128)
     (nz : m ≡ 0 → ⊥) (inside : bit_and m set ≡ m) where
-  after-skip : (next : ℕ) → at < length s → number_at s (at + 1) ≡ Number m next → FirstEntry s set left at (Whole skip m next)
+  after-skip : (next : ℕ) → at < length s → number_at s (at + 1) ≡ number_is m next → FirstEntry s set left at (Ok (entry_is skip m next))
   after-skip next l e =
       marks-inside s set left at skip (at + 1)
-      (read_one s at l (rw first at low) ∙ ap (λ (v : ℕ). Number v (at + 1)) (sym first)) h m next e nz inside
+      (read_one s at l (rw first at low) ∙ ap (λ (v : ℕ). number_is v (at + 1)) (sym first)) h m next e nz inside
 
-  in_two : at + 1 < length s → m ≡ get_or s (at + 1) 0 → m < 128 → FirstEntry s set left at (Whole skip m (at + 2))
+  in_two : at + 1 < length s → m ≡ get_or s (at + 1) 0 → m < 128 → FirstEntry s set left at (Ok (entry_is skip m (at + 2)))
   in_two l second last =
       let two : at + 1 + 1 ≡ at + 2 = omega arith in
-      after-skip (at + 2) (omega arith) (read_one s (at + 1) l (rw second at last) ∙ ap₂ Number (sym second) two)
+      after-skip (at + 2) (omega arith) (read_one s (at + 1) l (rw second at last) ∙ ap₂ number_is (sym second) two)
 
   in_three : (b c : ℕ) → at + 2 < length s → b ≡ get_or s (at + 1) 0 → c ≡ get_or s (at + 2) 0 → 128 ≤ b → b < 256 → (c ≡ 0 → ⊥) → c < 128
-      → m ≡ b % 128 + c * 128 → FirstEntry s set left at (Whole skip m (at + 3))
+      → m ≡ b % 128 + c * 128 → FirstEntry s set left at (Ok (entry_is skip m (at + 3)))
   in_three b c l second third more byte top last is =
       let two : at + 2 ≡ at + 1 + 1 = omega arith in
       let three : at + 1 + 2 ≡ at + 3 = omega arith in
       let high : c ≡ get_or s (at + 1 + 1) 0 = third ∙ ap (λ (j : ℕ). get_or s j 0) two in
       after-skip (at + 3) (omega arith)
       (read-two s (at + 1) (omega arith) (rw second at more) (rw second at byte) (rw high at top) (rw high at last)
-      ∙ ap₂ Number (ap₂ (λ (u v : ℕ). u % 128 + v * 128) (sym second) (sym high) ∙ sym is) three)
+      ∙ ap₂ number_is (ap₂ (λ (u v : ℕ). u % 128 + v * 128) (sym second) (sym high) ∙ sym is) three)
 
 -- room for the point, behind the first test of a loop
 pub has_room : (a b : Bool) (n j : ℕ) → ((leb n j || a) || b) ≡ false → j < n
@@ -204,10 +207,10 @@ module _ (s : List ℕ) (part : ℕ) (old : List ℕ) (from : Reach) (stated : L
       let three : at + 3 ≡ at + 2 + 1 = omega arith in
       let four : at + 2 + 2 ≡ at + 4 = omega arith in
       let fewer : k - 1 - 1 ≡ k - 2 = omega arith in
-      let one = onward-turn s part old from stated i at k o (Whole a b (at + 2)) a b (at + 2)
+      let one = onward-turn s part old from stated i at k o (Ok (entry_is a b (at + 2))) a b (at + 2)
       (in_two s part (length stated - i) at a b (omega arith) ea (omega arith) (eqb-false b 0 y.1) (eqb-true _ b (not-false _ p.0))
       (omega arith) eb (omega arith)) refl (omega arith) in
-      let two = onward-turn s part old from (set stated (i + a) b) (i + a + 1) (at + 2) (k - 1) one (Whole c d (at + 2 + 2)) c d (at + 2 + 2)
+      let two = onward-turn s part old from (set stated (i + a) b) (i + a + 1) (at + 2) (k - 1) one (Ok (entry_is c d (at + 2 + 2))) c d (at + 2 + 2)
       (in_two s part (length (set stated (i + a) b) - (i + a + 1)) (at + 2) c d (omega arith) ec (omega arith)
       (eqb-false d 0 x.1) (eqb-true _ d (not-false _ p.1))
       (omega arith) (ed ∙ ap (λ (j : ℕ). get_or s j 0) three) (omega arith)) refl (omega arith) in
@@ -227,6 +230,6 @@ module _ (s : List ℕ) (part : ℕ) (old : List ℕ) (from : Reach) (stated : L
       let ac = or_above a c in
       let top = eqb-false c 0 x.1 in
       let nz : m ≡ 0 → ⊥ = λ z. top (omega arith) in
-      onward-turn s part old from stated i at k o (Whole a m (at + 3)) a m (at + 3)
+      onward-turn s part old from stated i at k o (Ok (entry_is a m (at + 3))) a m (at + 3)
       (in_three s part (length stated - i) at a m (omega arith) ea (omega arith) nz (eqb-true _ m (not-false _ p.0)) b c l eb ec
       (ltb-false b 128 y.1) byte top (omega arith) is) refl h

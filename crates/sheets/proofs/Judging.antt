@@ -14,8 +14,8 @@ use Rattle.laws.proofs.Refusals.{passed, refused, first-append, each_first}
 use Rattle.rules.specs.Terms.{Terms}
 use Rattle.rules.specs.Marking.{ahead, refusal, marks_of}
 use Rattle.rules.proofs.Accepted.{ahead-numbers}
-use Rattle.sheets.specs.declared.reader.Entries.{Entries}
-use Rattle.sheets.specs.declared.reader.Entries.TheVariants.{Whole, Broken}
+use Rattle.std.specs.Prelude.{Result, Ok, Err, ⊤}
+use Rattle.groups.specs.declared.Fault.{Fault}
 use Rattle.sheets.specs.Said.{Said, said}
 use Rattle.sheets.specs.Answers.{plain, first_wrong, judged, check_of, series_sheet, write_of, room_after}
 use Rattle.sheets.specs.Steps.{tells}
@@ -35,19 +35,19 @@ named_other a b c d z = by (eqb a b) (eqb c d) refl refl
     by false u x y = refl
 
 -- how the entries came out, and the marks of every point where they are whole
-module _ (set : ℕ) (right : List ℕ) (r : Said) (t : ℕ) (found : Entries) (ms : List ℕ) (told : tells t found ms ≡ r) where
-  said-by : (e : Entries) → found ≡ e → tells t e ms ≡ r
-  said-by e is = ap (λ (x : Entries). tells t x ms) (sym is) ∙ told
+module _ (set : ℕ) (right : List ℕ) (r : Said) (t : ℕ) (found : Result ⊤ Fault) (ms : List ℕ) (told : tells t found ms ≡ r) where
+  said-by : (e : Result ⊤ Fault) → found ≡ e → tells t e ms ≡ r
+  said-by e is = ap (λ (x : Result ⊤ Fault). tells t x ms) (sym is) ∙ told
 
-  pub judged-broken : (p : ℕ) → found ≡ Broken p → (9, p, 0, 0) ≡ judged set right r
-  judged-broken p is = ap (judged set right) (said-by (Broken p) is)
+  pub judged-broken : (p : Fault) → found ≡ Err p → (9, p.at, 0, 0) ≡ judged set right r
+  judged-broken p is = ap (judged set right) (said-by (Err p) is)
 
-  module _ (is : found ≡ Whole) where
+  module _ (is : found ≡ Ok tt) where
     pub judged-other : ((length ms ≡ length right) × (t ≡ set) → ⊥) → plain 10 ≡ judged set right r
     judged-other z =
         sym (refused (not (eqb (length ms) (length right) && eqb t set)) (plain 10) [] (first_wrong 0 right ms)
         (named_other (length ms) (length right) t set z))
-        ∙ ap (judged set right) (said-by Whole is)
+        ∙ ap (judged set right) (said-by (Ok tt) is)
 
     -- for its points alone
     pub judged-points : (length ms ≡ length right → ⊥) → plain 10 ≡ judged set right r
@@ -58,7 +58,7 @@ module _ (set : ℕ) (right : List ℕ) (r : Said) (t : ℕ) (found : Entries) (
     judged-same x y =
         sym (passed (not (eqb (length ms) (length right) && eqb t set)) (plain 10) [] (first_wrong 0 right ms)
         (named-same (length ms) (length right) t set x y))
-        ∙ ap (judged set right) (said-by Whole is)
+        ∙ ap (judged set right) (said-by (Ok tt) is)
 
 -- ---- behind marking's refusals
 

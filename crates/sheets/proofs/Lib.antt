@@ -7,6 +7,7 @@ mod Entries
 mod Comparing
 mod Writing
 pub mod Judging
+mod Marking
 mod Accepting
 pub mod Answers
 pub mod Demand

@@ -15,8 +15,7 @@ use Rattle.laws.specs.Bools.{every}
 use Rattle.laws.specs.Refusals.{first_of}
 use Rattle.laws.proofs.Refusals.{first-such, first_under}
 use Rattle.laws.specs.Lists.{tabulate_from}
-use Rattle.groups.specs.declared.Reading.TheVariants.{Number}
-use Rattle.groups.specs.Groups.{groups, Front, some, none, before, front, read_as, number_at}
+use Rattle.groups.specs.Groups.{groups, Front, some, none, before, front, read_as, number_at, number_is, found}
 use Rattle.groups.proofs.Strings.{groups-most, before-zero, before-some, front-one, front-more}
 use Rattle.groups.proofs.Numbers.{read_some, read-over, not_some, not-number}
 use Rattle.groups.proofs.Onward.{by_number}
@@ -74,11 +73,11 @@ front_bytes [] k v n e h = not_some e
 front_bytes (b ∷ bs) k v n e h = front_by b bs k v n (ltb b 128) refl e h (λ j w m. front_bytes bs j w m)
 
 -- a number that is read has at most 64 bits, and takes no more bytes than its size asks for
-number-bytes : (s : List ℕ) (at v next k : ℕ) → number_at s at ≡ Number v next → (v < 2 ^ 64) × (v < 128 ^ suc k → next ≤ at + suc k)
+number-bytes : (s : List ℕ) (at v next k : ℕ) → number_at s at ≡ number_is v next → (v < 2 ^ 64) × (v < 128 ^ suc k → next ≤ at + suc k)
 unfolding number_at
 number-bytes s at v next k = by (front (drop at s)) refl
   where
-    by : (r : Front) → front (drop at s) ≡ r → read_as at r ≡ Number v next → (v < 2 ^ 64) × (v < 128 ^ suc k → next ≤ at + suc k)
+    by : (r : Front) → front (drop at s) ≡ r → read_as at r ≡ number_is v next → (v < 2 ^ 64) × (v < 128 ^ suc k → next ≤ at + suc k)
     by none f e = not-number e
     by (some w n) f e = small (ltb w (2 ^ 64)) refl
       where
@@ -86,12 +85,12 @@ number-bytes s at v next k = by (front (drop at s)) refl
         small false t = not-number (sym (read-over at w n (ltb-false w (2 ^ 64) t)) ∙ e)
         small true t =
             let low = ltb-true w (2 ^ 64) t in
-            let g : Number w (at + n) ≡ Number v next = sym (read_some at w n low) ∙ e in
-            let value : w ≡ v = cc in
-            let place : at + n ≡ next = cc in
+            let g : number_is w (at + n) ≡ number_is v next = sym (read_some at w n low) ∙ e in
+            let value : w ≡ v = ap (λ r. (found r).1) g in
+            let place : at + n ≡ next = ap (λ r. (found r).2) g in
             (omega arith, λ h. let few : n ≤ suc k = front_bytes (drop at s) k w n f (omega arith) in omega arith)
 
-number-ends : (s : List ℕ) (at v next : ℕ) → number_at s at ≡ Number v next → next ≤ at + 10
+number-ends : (s : List ℕ) (at v next : ℕ) → number_at s at ≡ number_is v next → next ≤ at + 10
 number-ends s at v next e = let b = number-bytes s at v next 9 e in b.1 (omega (arith, b.0))
 
 two_bytes : (x : ℕ) → x < 16384 → length (groups x) ≤ 2

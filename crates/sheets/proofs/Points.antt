@@ -1,5 +1,5 @@
 -- The marked points of a list and their entries, point by point. Assumes nothing.
-use Prim.Native.Nat.{ℕ, zero, suc, ◌+◌, ◌-◌, ◌≤◌}
+use Prim.Native.Nat.{ℕ, zero, suc, ◌+◌, ◌≤◌}
 use native.Mathlib.Omega.{arith}
 use native.Mathlib.Nat.{zero-add}
 use mathlib.Core.Path.{◌≡◌, refl, sym, ap, ◌∙◌}
@@ -70,13 +70,6 @@ pub zeros-only : (n : ℕ) → replicate {A = ℕ} n 0 ≡ replicate n 0 ++ []
 zeros-only zero = refl
 zeros-only (suc n) = ap (λ (l : List ℕ). 0 ∷ l) (zeros-only n)
 
--- the front of zeros
-pub zeros-front : (n k : ℕ) → take k (replicate {A = ℕ} n 0) ≡ replicate (length (take k (replicate {A = ℕ} n 0))) 0
-zeros-front zero zero = refl
-zeros-front zero (suc k) = refl
-zeros-front (suc n) zero = refl
-zeros-front (suc n) (suc k) = ap (λ (l : List ℕ). 0 ∷ l) (zeros-front n k)
-
 -- so long a front of them has so many, where there are as many
-pub front_long : (n k : ℕ) → k ≤ n → length (take (k - 0) (replicate {A = ℕ} n 0)) ≡ k
-front_long n k h = length-take-le (k - 0) (replicate n 0) (omega (arith, length-replicate {A = ℕ} n 0)) ∙ omega arith
+pub front_long : (n k : ℕ) → k ≤ n → length (take k (replicate {A = ℕ} n 0)) ≡ k
+front_long n k h = length-take-le k (replicate n 0) (omega (arith, length-replicate {A = ℕ} n 0))

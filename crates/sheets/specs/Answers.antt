@@ -1,14 +1,14 @@
 -- What the checker and the writer answer, and what the writer leaves in the lent slice (01, 'Numbers a call may give back').
 -- Definitions only.
-use Rattle.std.specs.Prelude.{not, ◌&&◌, cond, List, [], ◌∷◌, ◌++◌, ℕ, suc, eqb, ltb, Float, length}
+use Rattle.std.specs.Prelude.{not, ◌&&◌, cond, List, [], ◌∷◌, ◌++◌, ℕ, suc, eqb, ltb, Float, length, Result, Ok, Err, ⊤}
 use Rattle.laws.specs.Refusals.{first_of, each}
 use Rattle.laws.specs.Front.{at_front}
+use Rattle.numbers.specs.Numbers.{answered}
+use Rattle.rules.specs.declared.Refusal.{Refusal}
 use Rattle.rules.specs.Terms.{Terms}
 use Rattle.rules.specs.Marking.{number, ahead, marks_of}
-use Rattle.sheets.specs.declared.Checked.{Checked}
-use Rattle.sheets.specs.declared.Checked.TheVariants as checking
-use Rattle.sheets.specs.declared.Written.{Written}
-use Rattle.sheets.specs.declared.Written.TheVariants as writing
+use Rattle.sheets.specs.declared.Fault.{Fault}
+use Rattle.sheets.specs.declared.Fault.TheVariants.{Refused, Form, Differs, Wrong}
 use Rattle.sheets.specs.Sheet.{sheet_of}
 use Rattle.sheets.specs.Said.{Said, fault, sheet, said}
 
@@ -22,17 +22,22 @@ Verdict = ℕ × ℕ × ℕ × ℕ
 abbrev pub plain : ℕ → Verdict
 plain n = (n, 0, 0, 0)
 
-abbrev pub checked : Checked → Verdict
-checked checking.Accepted = plain 0
-checked (checking.Refused why) = plain (number why)
-checked (checking.Form at) = (9, at, 0, 0)
-checked checking.Differs = plain 10
-checked (checking.Wrong at right stated) = (11, at, right, stated)
+abbrev pub faulted : Fault → Verdict
+faulted (Refused why) = plain (number why)
+faulted (Form at) = (9, at, 0, 0)
+faulted Differs = plain 10
+faulted (Wrong at right stated) = (11, at, right, stated)
+
+abbrev pub fault_number : Fault → ℕ
+fault_number why = (faulted why).0
+
+abbrev pub checked : Result ⊤ Fault → Verdict
+checked (Ok done) = plain 0
+checked (Err why) = faulted why
 
 -- the number, and the sheet's length
-abbrev pub written : Written → ℕ × ℕ
-written (writing.Sheet n) = (0, n)
-written (writing.Refused why) = (number why, 0)
+abbrev pub written : Result ℕ Refusal → ℕ × ℕ
+written = answered number (λ n. n) 0
 
 -- ---- the checker
 

@@ -1,48 +1,47 @@
 -- What the parts of the checker and of the writer find and leave. Nothing here has to be believed: the proofs tie it to Said.antt and
 -- Sheet.antt. Definitions only.
-use Rattle.std.specs.Prelude.{cond, ◌≡◌, List, ◌++◌, ℕ, suc, ◌-◌, ◌*◌, ◌≤◌, ◌<◌, leb, length, take, drop, replicate}
-use Rattle.groups.specs.declared.Reading.{Reading}
-use Rattle.groups.specs.declared.Reading.TheVariants.{Number, Fault}
+use Rattle.std.specs.Prelude.{cond, ◌≡◌, List, ◌++◌, ℕ, suc, ◌-◌, ◌*◌, ◌≤◌, ◌<◌, leb, length, take, drop, replicate, Result, Ok, Err, IfOk, ⊤}
+use Rattle.groups.specs.declared.Read.{Read}
+use Rattle.groups.specs.declared.Fault.{Fault}
+use Rattle.groups.specs.Groups.{fault_is}
 use Rattle.rules.specs.Marking.{most}
-use Rattle.sheets.specs.declared.reader.Entry.{Entry}
-use Rattle.sheets.specs.declared.reader.Entry.TheVariants.{Whole, Broken}
-use Rattle.sheets.specs.declared.reader.Entries.{Entries}
-use Rattle.sheets.specs.declared.reader.Entries.TheVariants as all
-use Rattle.sheets.specs.declared.reader.Reach.{Reach}
 use Rattle.sheets.specs.declared.reader.Head.{Head}
-use Rattle.sheets.specs.declared.reader.Head.TheVariants.{Names, Faulty}
+use Rattle.sheets.specs.declared.reader.Entry.{Entry}
+use Rattle.sheets.specs.declared.reader.Reach.{Reach}
 use Rattle.sheets.specs.Sheet.{marked, entries_of}
 use Rattle.sheets.specs.Said.{Said, fault, sheet, placed, entries}
 
 -- ---- reading
 
 -- a number that is at most so much
-abbrev pub at_most : ℕ → ℕ → Reading → Reading
-at_most most at (Fault p) = Fault at
-at_most most at (Number v next) = cond (leb v most) (Number v next) (Fault at)
+abbrev pub at_most : ℕ → ℕ → Result (Read ℕ) Fault → Result (Read ℕ) Fault
+at_most top at (Err found) = fault_is at
+at_most top at (Ok number) = cond (leb number.value top) (Ok number) (fault_is at)
+
+-- what the numbers at the head have the entries say
+abbrev pub behind : List ℕ → Head → Said
+behind s head = entries s head.set head.marked head.points head.next
 
 -- what is said, known the numbers at the head
-abbrev pub after_head : List ℕ → Head → Said
-after_head s (Faulty p) = fault p
-after_head s (Names points set k next) = entries s set k points next
+abbrev pub after_head : List ℕ → Result Head Fault → Said
+after_head s (Err found) = fault found.at
+after_head s (Ok head) = behind s head
 
 -- there are not too many points
-abbrev pub Few : Head → Type 0
-Few (Faulty p) = Unit {0}
-Few (Names points set k next) = points ≤ most
+abbrev pub Few : Result Head Fault → Type 0
+Few r = IfOk r (λ head. head.points ≤ most)
 
 -- what is said, known the first entry; k more follow
-abbrev pub after_entry : List ℕ → ℕ → ℕ → ℕ → Entry → Said
-after_entry s set left k (Broken p) = fault p
-after_entry s set left k (Whole skip m next) = placed skip m (entries s set k (left - suc skip) next)
+abbrev pub after_entry : List ℕ → ℕ → ℕ → ℕ → Result Entry Fault → Said
+after_entry s set left k (Err found) = fault found.at
+after_entry s set left k (Ok entry) = placed entry.skip entry.marks (entries s set k (left - suc entry.skip) entry.next)
 
 -- its point is one of those left
-abbrev pub Fits : ℕ → Entry → Type 0
-Fits left (Broken p) = Unit {0}
-Fits left (Whole skip m next) = skip < left
+abbrev pub Fits : ℕ → Result Entry Fault → Type 0
+Fits left r = IfOk r (λ entry. entry.skip < left)
 
 -- the first entry at a place
-pub record FirstEntry (s : List ℕ) (set left at : ℕ) (e : Entry) : Type 0 where
+pub record FirstEntry (s : List ℕ) (set left at : ℕ) (e : Result Entry Fault) : Type 0 where
   pub goes : (k : ℕ) → entries s set (suc k) left at ≡ after_entry s set left k e
   pub fits : Fits left e
 
@@ -68,9 +67,9 @@ pub record Onward (s : List ℕ) (set : ℕ) (old : List ℕ) (from : Reach) (st
   pub fewer : r.left ≤ from.left
 
 -- what is said, known how the entries came out and the marks of every point
-abbrev pub tells : ℕ → Entries → List ℕ → Said
-tells set (all.Broken p) ms = fault p
-tells set all.Whole ms = sheet set ms
+abbrev pub tells : ℕ → Result ⊤ Fault → List ℕ → Said
+tells set (Err found) ms = fault found.at
+tells set (Ok done) ms = sheet set ms
 
 -- ---- writing
 

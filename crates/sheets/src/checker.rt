@@ -1,97 +1,58 @@
 // The checker: the bytes are read once, and no count in them is trusted.
-ghost use Rattle.std.specs.Prelude.{◌≡◌, eqb, length, replicate};
-ghost use Rattle.sheets.specs.Said.{said, entries};
+ghost use Rattle.std.specs.Prelude.{◌≡◌, ◌≤◌, length};
+ghost use Rattle.sheets.specs.Said.{said};
+ghost use Rattle.sheets.specs.Steps.{behind};
 ghost use Rattle.sheets.specs.Answers.{checked, first_wrong, judged};
 
-use crate::reader::{Entries, Head};
-use crate::{Checked, FEW, reader};
+use crate::reader::Head;
+use crate::{FEW, Fault, reader};
 use rules::MOST;
 
-// Whether right and stated marks are the same throughout.
-fn agree(right: &[u16], stated: &[u16]) -> bool
-    requires { length right.now ≡ length stated.now }
-    ensures { result ≡ eqb (first_wrong 0 right.now stated.now).0 0 }
-{
-    // Going on behind marks that differ lets the loop take several points at a time.
-    let mut same = true;
-    let mut i: usize = 0;
-    while i < right.len() {
-        same = same & (right[i] == stated[i]);
-        i += 1;
-    }
-    same
-}
-
 // The first point whose right and stated marks differ.
-fn first_wrong(right: &[u16], stated: &[u16]) -> Checked
+fn first_wrong(right: &[u16], stated: &[u16]) -> Result<(), Fault>
     requires { length right.now ≡ length stated.now }
     ensures { checked result ≡ first_wrong 0 right.now stated.now }
 {
-    if agree(right, stated) {
-        return Checked::Accepted;
+    // Most sheets are right, and one comparison of all marks is faster than one for each point.
+    if right == stated {
+        return Ok(());
     }
-    let mut i: usize = 0;
-    while i < right.len() {
-        let r = right[i];
-        let m = stated[i];
-        if r != m {
-            return Checked::Wrong {
-                at: i,
-                right: r,
-                stated: m,
-            };
-        }
-        i += 1;
+    match right.iter().zip(stated).position(|(r, m)| r != m) {
+        None => Ok(()),
+        Some(at) => Err(Fault::Wrong {
+            at,
+            right: right[at],
+            stated: stated[at],
+        }),
     }
-    Checked::Accepted
 }
 
-// The entries that a set names, against another set and its right marks; `stated` is zero for every point that is named.
-fn check_entries(
+// The entries behind a head, against a set and its right marks, in a room that holds those of every point.
+fn check_entries<const ROOM: usize>(
     s: &[u8],
-    from: usize,
-    count: usize,
-    named: u16,
-    stated: &mut [u16],
+    head: Head,
     right: &[u16],
     set: u16,
-) -> Checked
-    requires { stated.old ≡ replicate (length stated.old) 0 }
-    ensures { checked result ≡ judged set right.now (entries s.now named count (length stated.old) from) }
+) -> Result<(), Fault>
+    requires { (head.points ≤ ROOM) × (ROOM ≤ 4096) }
+    ensures { checked result ≡ judged set right.now (behind s.now head) }
 {
-    let found = reader::read_entries(s, from, count, named, stated);
-    match found {
-        Entries::Broken { at } => Checked::Form { at },
-        Entries::Whole => {
-            if stated.len() != right.len() {
-                return Checked::Differs;
-            }
-            if named != set {
-                return Checked::Differs;
-            }
-            first_wrong(right, stated)
-        }
+    let mut room = [0u16; ROOM];
+    let stated = &mut room[..head.points];
+    reader::read_entries(s, head, stated)?;
+    if stated.len() != right.len() || head.set != set {
+        return Err(Fault::Differs);
     }
+    first_wrong(right, stated)
 }
 
 // Whether the bytes are the sheet of the set and its right marks: the form first, then points and set, then the marks.
-pub fn check_marks(marks: &[u16], set: u16, s: &[u8]) -> Checked
+pub fn check_marks(marks: &[u16], set: u16, s: &[u8]) -> Result<(), Fault>
     ensures { checked result ≡ judged set marks.now (said s.now) }
 {
-    match reader::read_head(s) {
-        Head::Faulty { at } => Checked::Form { at },
-        Head::Names {
-            points,
-            set: named,
-            marked,
-            next,
-        } => {
-            if points <= FEW {
-                let mut stated = [0u16; FEW];
-                return check_entries(s, next, marked, named, &mut stated[0..points], marks, set);
-            }
-            let mut stated = [0u16; MOST];
-            check_entries(s, next, marked, named, &mut stated[0..points], marks, set)
-        }
+    let head = reader::read_head(s)?;
+    if head.points <= FEW {
+        return check_entries::<FEW>(s, head, marks, set);
     }
+    check_entries::<MOST>(s, head, marks, set)
 }

@@ -7,15 +7,13 @@ ghost use Rattle.sheets.specs.Sheet.{entries_of, sheet_of};
 ghost use Rattle.sheets.specs.Answers.{written};
 ghost use Rattle.sheets.specs.Steps.{Measured};
 
-use crate::Written;
-use groups::Writing;
 use rules::Refusal;
 
 // How many groups a number of a sheet has.
 fn size(x: u16) -> usize
     ensures { (result ≡ length (groups x)) × (result ≤ 10) }
 {
-    groups::size(x as u64)
+    groups::size(u64::from(x))
 }
 
 // Writes a number at the front of a room that holds it, and gives how many bytes it takes.
@@ -24,10 +22,7 @@ fn put(out: &mut [u8], x: u16) -> usize
     ensures count { result ≡ length (groups x) }
     ensures room { out.new ≡ at_front (groups x) out.old }
 {
-    match groups::write_number(out, x as u64) {
-        Writing::Bytes(n) => n,
-        Writing::Short => 0,
-    }
+    groups::write_number(out, u64::from(x)).unwrap_or(0)
 }
 
 // Writes the entry of one marked point.
@@ -63,20 +58,16 @@ fn measure(marks: &[u16]) -> Extent
     requires { length marks.now ≤ most }
     ensures { Measured marks.now result.marked result.len }
 {
-    let mut i: usize = 0;
     let mut skip: u16 = 0;
     let mut marked: u16 = 0;
     let mut len: usize = 0;
-    while i < marks.len() {
-        let m = marks[i];
-        if m == 0 {
+    for m in marks {
+        if *m == 0 {
             skip += 1;
-            i += 1;
         } else {
-            len = len + size(skip) + size(m);
+            len = len + size(skip) + size(*m);
             marked += 1;
             skip = 0;
-            i += 1;
         }
     }
     Extent { marked, len }
@@ -88,26 +79,21 @@ fn write_entries(out: &mut [u8], marks: &[u16]) -> usize
     ensures count { result ≡ length (entries_of 0 marks.now) }
     ensures room { out.new ≡ at_front (entries_of 0 marks.now) out.old }
 {
-    let mut i: usize = 0;
     let mut skip: u16 = 0;
     let mut at: usize = 0;
-    while i < marks.len() {
-        let m = marks[i];
-        if m == 0 {
+    for m in marks {
+        if *m == 0 {
             skip += 1;
-            i += 1;
         } else {
-            let n = write_entry(&mut out[at..], skip, m);
-            at += n;
+            at += write_entry(&mut out[at..], skip, *m);
             skip = 0;
-            i += 1;
         }
     }
     at
 }
 
 // Writes the sheet of the set and the marks, or nothing where the room is shorter than the sheet.
-pub fn write_marks(marks: &[u16], set: u16, out: &mut [u8]) -> Written
+pub fn write_marks(marks: &[u16], set: u16, out: &mut [u8]) -> Result<usize, Refusal>
     requires { length marks.now ≤ most }
     ensures answer { written result ≡ room_for (sheet_of set marks.now) (length out.old) }
     ensures room { out.new ≡ at_front_if_room (sheet_of set marks.now) out.old }
@@ -117,9 +103,9 @@ pub fn write_marks(marks: &[u16], set: u16, out: &mut [u8]) -> Written
     let marked = measured.marked;
     let head = size(points) + size(set) + size(marked);
     if out.len() < head + measured.len {
-        return Written::Refused(Refusal::TooShort);
+        return Err(Refusal::TooShort);
     }
     let a = write_head(out, points, set, marked);
     let b = write_entries(&mut out[a..], marks);
-    Written::Sheet(a + b)
+    Ok(a + b)
 }

@@ -30,11 +30,10 @@ loop-x-preserved c =
     let file = c.args.file.now in
     let rest = c.loop-x.rest.now in
     let k = c.loop-x.pairs in
-    let pair = c.in-Bits.ensures in
-    let counted = more file rest k c.in-Bits.x c.in-Bits.root c.answer.result c.loop-x.invariant.left pair.1 pair.2 c.answer.ensures in record {
+    let pair = c.in-Some.ensures in
+    let counted = more file rest k c.in-Some.x c.in-Some.root c.answer.result c.loop-x.invariant.left pair.1 pair.2 c.answer.ensures in record {
       passed = grind (arith, common_steps);
       left = left file rest k c.loop-x.invariant.left;
       some = elim c.if-answer-root.branch [ then-answer-root w ↦ omega arith | else-answer-root w ↦ omega arith ];
       right = elim c.if-answer-root.branch [ then-answer-root w ↦ grind (arith, common_steps) | else-answer-root w ↦ grind (arith, common_steps) ];
-      whole = search rules;
     }

@@ -10,7 +10,6 @@ invariant-loop-x l = record {
   left : l.rest ≡ drop (16 * l.pairs) l.file;
   some : l.differ ≤ l.pairs;
   right : l.differ ≡ differing l.file l.pairs;
-  whole : l.cut ≡ 0;
 }
 
 abbrev pub decreases-loop-x : goal.decreases-loop-x

@@ -6,4 +6,4 @@ use Rattle.rules.proofs.finite_limits.Goals as goal
 pub returns : goal.returns
 unfolding finite_limits
 returns c =
-    rw (c.is_finite-upper.ensures, c.is_finite-centre.ensures, c.is_finite-lower.ensures) refl
+    rw (c.is_finite.ensures, c.is_finite-2.ensures, c.is_finite-3.ensures) refl

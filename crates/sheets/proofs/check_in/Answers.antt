@@ -1,56 +1,40 @@
 -- `sheets::check_in` meets its contract: marking refuses first, and else its marks are the right ones. Assumes nothing.
-use native.Mathlib.Omega.{arith}
-use mathlib.Core.Path.{◌≡◌, sym, ap, ◌∙◌}
 use Prim.Native.Nat.{ℕ}
+use native.Mathlib.Omega.{arith}
+use mathlib.Core.Path.{◌≡◌, ap, ◌∙◌}
 use mathlib.Core.List.{List}
-use lib.ListN.{length}
-use Rattle.rules.specs.declared.Marked.TheVariants.{Refused}
-use Rattle.rules.specs.Terms.{under}
-use Rattle.rules.specs.Marking.{numbered, refusal}
-use Rattle.rules.proofs.Accepted.{refusal_is, Made, made}
-use Rattle.rules.proofs.Answers.{number-above}
+use borrow.Author.Rules.{rules}
+use Rattle.std.specs.Prelude.{Err}
+use Rattle.rules.specs.Terms.{told}
+use Rattle.sheets.specs.declared.Fault.TheVariants.{Refused}
 use Rattle.sheets.specs.Said.{said}
-use Rattle.sheets.specs.Answers.{plain, judged}
+use Rattle.sheets.specs.Answers.{plain, checked, judged}
 use Rattle.sheets.proofs.Judging.{check_done, check-refused}
-use Rattle.sheets.proofs.check_in.Goals.{In-Done}
+use Rattle.sheets.proofs.Marking.{marked-right, marked-fits, refused-as, was-refused}
 use Rattle.sheets.proofs.check_in.Goals as goal
 
-done : (c : In-Done) → Made (under c.args.limits c.args.width c.args.stops.now c.args.moving) c.args.set.mask c.args.values.now c.args.marks.now c.mark.new.marks
-done c =
-    made (under c.args.limits c.args.width c.args.stops.now c.args.moving) c.args.set.mask c.args.values.now c.args.marks.now _ c.mark.result c.requires c.mark.ensures.answer
-    (ap numbered c.in-Done.is) c.mark.ensures.marks
+pub returns-in_err-mark : goal.returns-in_err-mark
+returns-in_err-mark g c =
+    let a = c.args in
+    let terms = told a.terms in
+    let why = c.in_err-mark.field-0.0 in
+    let passed_on : c.from_residual.result ≡ Err (Refused why) = search rules in
+    let is = refused-as terms a.set.mask a.values.now g.row.ROOM c.requires.0 c.mark.new.marks c.mark.result c.mark.ensures.answer why c.in_err-mark.was in
+    let some = was-refused terms a.set.mask a.values.now g.row.ROOM c.requires.0 c.mark.new.marks c.mark.result c.mark.ensures.answer why c.in_err-mark.was in
+    ap checked passed_on ∙ ap plain is ∙ check-refused terms a.set.mask a.values.now some a.sheet.now
 
-pub slice_bounds-check_marks-end : goal.slice_bounds-check_marks-end
-slice_bounds-check_marks-end c =
-    omega (arith, (done c).room, c.mark.auto.marks)
+pub shared_whole_as_front-check_marks : goal.shared_whole_as_front-check_marks
+shared_whole_as_front-check_marks g c =
+    let a = c.args in (
+      marked-fits (told a.terms) a.set.mask a.values.now g.row.ROOM c.requires.0 c.mark.new.marks c.mark.result c.mark.ensures.answer c.mark.ensures.marks c.in_ok-mark.was,
+      omega (arith, c.requires.1),
+    )
 
-pub returns-in-Done : goal.returns-in-Done
-returns-in-Done c =
-    let all = done (goal.at.returns-in-Done c).In-Done in
-    let args = c.args in
+pub returns : goal.returns
+returns g c =
+    let a = c.args in
+    let terms = told a.terms in
+    let all = marked-right terms a.set.mask a.values.now g.row.ROOM c.requires.0 c.mark.new.marks c.mark.result c.mark.ensures.answer c.mark.ensures.marks c.in_ok-mark.was in
     c.check_marks.ensures
-    ∙ ap (λ (ms : List ℕ). judged args.set.mask ms (said args.sheet.now)) all.front
-    ∙ check_done (under args.limits args.width args.stops.now args.moving) args.set.mask args.values.now all.none args.sheet.now
-
-pub returns-in-Refused : goal.returns-in-Refused
-returns-in-Refused c =
-    let told = refusal_is (under c.args.limits c.args.width c.args.stops.now c.args.moving) c.args.set.mask c.args.values.now (length c.args.marks.now) c.requires c.mark.result
-    (Refused c.in-Refused.why) c.mark.ensures.answer c.in-Refused.is in
-    let some : refusal (under c.args.limits c.args.width c.args.stops.now c.args.moving) c.args.set.mask c.args.values.now ≡ 0 → ⊥ = λ e. omega (arith, number-above c.in-Refused.why, told, e) in
-    ap plain (sym told) ∙ check-refused (under c.args.limits c.args.width c.args.stops.now c.args.moving) c.args.set.mask c.args.values.now some c.args.sheet.now
-
-pub mark-requires : goal.mark-requires
-mark-requires c =
-    tt
-
-pub slice_bounds-check_marks-count : goal.slice_bounds-check_marks-count
-slice_bounds-check_marks-count c =
-    omega arith
-
-pub slice_bounds-check_marks-start : goal.slice_bounds-check_marks-start
-slice_bounds-check_marks-start c =
-    omega arith
-
-pub check_marks-requires : goal.check_marks-requires
-check_marks-requires c =
-    tt
+    ∙ ap (λ (ms : List ℕ). judged a.set.mask ms (said a.sheet.now)) all.front
+    ∙ check_done terms a.set.mask a.values.now all.none a.sheet.now

@@ -1,6 +1,6 @@
 -- `rates::sample_right` meets its contract: none of the two tests applies. Assumes nothing.
 use Rattle.std.proofs.Common.{Bool, not, ◌||◌, ap, ◌∙◌}
-use Rattle.attributes.specs.Records.{too_large}
+use Rattle.attributes.specs.Kinds.{too_large}
 use Rattle.attributes.proofs.Samples.{right-U}
 use Rattle.attributes.proofs.rates.sample_right.Goals as goal
 

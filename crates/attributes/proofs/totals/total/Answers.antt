@@ -1,22 +1,16 @@
--- `totals::total` meets its contract: the total so far and the rest together are the whole. Assumes nothing.
-use Rattle.std.proofs.Common.{arith}
-use Rattle.attributes.proofs.Totalling.{totalling-starts, totalling-next, totalling-ends}
+-- `totals::total` meets its contract: the sum is the total, which fits. Assumes nothing.
+use Rattle.std.proofs.Common.{◌∙◌, arith}
+use Rattle.std.proofs.lemmas.Iterator.{YieldsList-from_slice}
+use Rattle.std.proofs.lemmas.Iterator.Consumers.{sum_from_yields_List, fits_from_yields_list}
+use Rattle.attributes.proofs.Totalling.{total-most, total-sum}
 use Rattle.attributes.proofs.totals.total.Goals as goal
 
-pub loop-i-init : goal.loop-i-init
-loop-i-init c =
-    totalling-starts _
-
-pub overflow_add-t : goal.overflow_add-t
-overflow_add-t c =
-    let pre = c.requires in
-    omega (arith, c.loop-i.invariant.most, pre.1 c.loop-i.i c.loop-i-test.true)
-
-pub loop-i-preserved : goal.loop-i-preserved
-loop-i-preserved c =
-    let pre = c.requires in
-    totalling-next _ _ _ c.loop-i.invariant pre.1 c.loop-i-test.true
+pub sum-requires-clause-fits : goal.sum-requires-clause-fits
+sum-requires-clause-fits c =
+    let counts = c.args.counts.now in
+    fits_from_yields_list c.iter.result _ (YieldsList-from_slice counts cc) (omega (arith, total-most counts c.requires.1, c.requires.0, total-sum counts))
 
 pub returns : goal.returns
 returns c =
-    totalling-ends _ _ _ c.loop-i.invariant c.loop-i-test.false
+    let counts = c.args.counts.now in
+    sum_from_yields_List c.iter.result _ c.sum.ensures.ran (YieldsList-from_slice counts cc) ∙ total-sum counts

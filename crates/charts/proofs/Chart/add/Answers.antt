@@ -1,5 +1,4 @@
--- `Chart::add` meets its contract: a record that is not wrong has a sample's place within bounds, and the sample goes behind the others.
--- Assumes nothing.
+-- `Chart::add` meets its contract: the place of the sample is within bounds, and the sample goes behind the others. Assumes nothing.
 use native.Mathlib.Omega.{arith}
 use lib.ListN.{length}
 use Rattle.laws.proofs.Bools.{told}

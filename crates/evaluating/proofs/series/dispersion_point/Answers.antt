@@ -1,8 +1,6 @@
 -- `series::dispersion_point` meets its contract, by kind. Assumes nothing.
-use Rattle.std.proofs.Common.{◌+◌, ◌<◌, length, ap, ◌∙◌, arith}
-use Rattle.arith.specs.Arith.{range_of, deviation_of}
-use Rattle.evaluating.specs.Series.{by_series, point_at}
-use Rattle.evaluating.proofs.ByKind.{of_kind, number-1}
+use Rattle.std.proofs.Common.{◌+◌, ◌<◌, length, arith}
+use Rattle.evaluating.proofs.ByKind.{number-1}
 use Rattle.evaluating.proofs.SeriesPoints.{points-most, moving-reach}
 use Rattle.evaluating.proofs.series.dispersion_point.Goals.{In-Individuals}
 use Rattle.evaluating.proofs.series.dispersion_point.Goals as goal
@@ -39,18 +37,3 @@ sample_at-requires c =
 pub sample_at-requires-in-Deviations : goal.sample_at-requires-in-Deviations
 sample_at-requires-in-Deviations c =
     (c.requires.0, omega (arith, points-most c.args.c 1, c.requires.1))
-
-pub returns-in-Individuals : goal.returns-in-Individuals
-unfolding point_at by_series
-returns-in-Individuals c =
-    c.moving_range.ensures ∙ of_kind c.args.c.kind _ _ _ c.in-Individuals.ensures
-
-pub returns-in-Ranges : goal.returns-in-Ranges
-unfolding point_at by_series
-returns-in-Ranges c =
-    c.range_of.ensures ∙ ap range_of c.sample_at.ensures ∙ of_kind c.args.c.kind _ _ _ c.in-Ranges.ensures
-
-pub returns-in-Deviations : goal.returns-in-Deviations
-unfolding point_at by_series
-returns-in-Deviations c =
-    c.deviation_of.ensures ∙ ap deviation_of c.sample_at-in-Deviations.ensures ∙ of_kind c.args.c.kind _ _ _ c.in-Deviations.ensures

@@ -16,15 +16,3 @@ pub returns-in-Individuals : goal.returns-in-Individuals
 unfolding df_of of_bits round
 returns-in-Individuals c =
     rw (c.nearest_u64_to_f64-n.ensures, c.points_in.ensures) (of_kind c.args.c.kind _ _ _ c.in-Individuals.ensures)
-
-pub returns-in-Ranges : goal.returns-in-Ranges
-unfolding df_of
-returns-in-Ranges c =
-    rw (c.equivalent_df.ensures, c.range_cv2.ensures, c.of_size.ensures, c.nearest_u64_to_f64-n.ensures, c.points_in.ensures)
-    (of_kind c.args.c.kind _ _ _ c.in-Ranges.ensures)
-
-pub returns-in-Deviations : goal.returns-in-Deviations
-unfolding df_of
-returns-in-Deviations c =
-    rw (c.equivalent_df-in-Deviations.ensures, c.deviation_cv2.ensures, c.of_size-in-Deviations.ensures, c.nearest_u64_to_f64-n.ensures, c.points_in.ensures)
-    (of_kind c.args.c.kind _ _ _ c.in-Deviations.ensures)

@@ -38,13 +38,13 @@ returns-then-not-is_finite c =
 pub marks-requires : goal.marks-requires
 unfolding after
 marks-requires c =
-    rw c.after-lane.ensures (min-le_right _ 15)
+    rw c.after.ensures (min-le_right _ 15)
 
 pub returns : goal.returns
 returns c =
     let a = c.args in
     let sound : finite_limits a.limits ≡ true = sym c.finite_limits.ensures ∙ c.if-not-finite_limits.false in
     let is : finite a.value ≡ true = sym c.is_finite.ensures ∙ c.if-not-is_finite.false in
-    ap (λ (m : ℕ). (0, m, c.after-lane.result)) c.marks.ensures
-    ∙ ap (marked a.set.mask) (c.after-lane.ensures ∙ ap (λ (l : Lines). after l a.self.now a.value) c.lines_of.ensures)
+    ap (λ (m : ℕ). (0, m, c.after.result)) c.marks.ensures
+    ∙ ap (marked a.set.mask) (c.after.ensures ∙ ap (λ (l : Lines). after l a.self.now a.value) c.lines_of.ensures)
     ∙ sym (value_taken a.limits a.width a.set.mask a.self.now a.value (omega arith) (omega arith) sound is)

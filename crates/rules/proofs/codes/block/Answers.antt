@@ -16,5 +16,5 @@ pub returns : goal.returns
 returns c =
     let vs = c.args.values.now in
     let there = codes-there c.args.set c.args.l vs c.args.c.now _ (14 - c.args.p) (omega arith) c.codes.ensures in
-    block-marks c.args.set c.args.l vs c.args.p _ c.requires.0 there _ _ _ _ _ refl c.least.ensures.1 (omega (arith, c.least.ensures.0)) c.least.ensures.2
+    block-marks c.args.set c.args.l vs c.args.p _ c.requires.0 there _ _ _ _ _ refl (omega arith) (omega arith) (λ i h q. omega arith)
     c.read_marks.ensures c.fit.ensures

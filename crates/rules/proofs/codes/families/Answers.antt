@@ -4,5 +4,6 @@ use Rattle.rules.proofs.codes.families.Goals as goal
 
 pub returns : goal.returns
 returns c =
-    codes-by c.args.set c.args.l _ c.args.values.now _ _ _ _ _ _ _ _ c.requires.2 c.zones.ensures c.zones-2.ensures
-    c.zones-3.ensures c.zones-4.ensures c.insides.ensures c.steps.ensures
+    codes-by c.args.set c.args.l _ c.args.values.now _ _ _ _ _ _ _ _ c.requires.2 (rw c.outside-limits.ensures at c.put.ensures)
+    (rw c.outside-centre.ensures at c.put-2.ensures) (rw c.outside-two_sigma.ensures at c.put-3.ensures)
+    (rw c.outside-one_sigma.ensures at c.put-4.ensures) c.put-5.ensures c.put-6.ensures

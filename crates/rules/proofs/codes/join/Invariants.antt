@@ -1,5 +1,4 @@
 -- `rules::codes::join` meets its contract: one code after the other. Assumes nothing.
-use Prim.Native.Nat.{◌-◌}
 use lib.ListN.{get_or}
 use Rattle.rules.proofs.Making.{Adding}
 use Rattle.rules.proofs.codes.join.Given as goal
@@ -7,7 +6,3 @@ use Rattle.rules.proofs.codes.join.Given as goal
 abbrev pub invariant-loop-j : goal.invariant-loop-j
 invariant-loop-j l =
     Adding (λ i. get_or l.k i 0) 16 l.initial.c l.c l.j
-
-abbrev pub decreases-loop-j : goal.decreases-loop-j
-decreases-loop-j l =
-    16 - l.j

@@ -1,5 +1,4 @@
 -- `rules::codes::mark_beyond` meets its contract. The marks are written one after the other. Assumes nothing.
-use Prim.Native.Nat.{◌-◌}
 use lib.ListN.{length}
 use Rattle.laws.proofs.Filling.{Tabling}
 use Rattle.stops.specs.Cuts.{unbroken}
@@ -9,7 +8,3 @@ use Rattle.rules.proofs.codes.mark_beyond.Given as goal
 abbrev pub invariant-loop-i : goal.invariant-loop-i
 invariant-loop-i l =
     Tabling (marks_at unbroken l.l l.set l.values) (length l.values) l.initial.out l.out l.i
-
-abbrev pub decreases-loop-i : goal.decreases-loop-i
-decreases-loop-i l =
-    length l.values - l.i

@@ -13,12 +13,12 @@ use Rattle.rules.proofs.codes.mark_many.Goals as goal
 
 pub block-requires : goal.block-requires
 block-requires c =
-    let some : c.loop-at.at + c.least.result ≤ length c.args.values.now = omega (arith, c.least.ensures.0) in
-    let long = part-long c.args.values.now (c.loop-at.at - c.least-p.result) (c.loop-at.at + c.least.result) some in (
-      omega (arith, c.least-p.ensures.1),
-      omega (arith, long, c.least-p.ensures.0),
-      omega (arith, long, c.least-p.ensures.0, c.least.ensures.1),
-      omega (arith, long, c.least-p.ensures.0, part_room _ _ _ _ _ c.loop-at.invariant c.least.result some),
+    let some : c.loop-at.at + c.min.result ≤ length c.args.values.now = omega arith in
+    let long = part-long c.args.values.now (c.loop-at.at - c.min-p.result) (c.loop-at.at + c.min.result) some in (
+      omega arith,
+      omega (arith, long),
+      omega (arith, long),
+      omega (arith, long, part_room _ _ _ _ _ c.loop-at.invariant c.min.result some),
       omega arith,
       clear-zeros 512,
     )
@@ -26,15 +26,15 @@ block-requires c =
 pub loop-at-preserved : goal.loop-at-preserved
 loop-at-preserved c =
     let s = c.args in
-    let some : c.loop-at.at + c.least.result ≤ length s.values.now = omega (arith, c.least.ensures.0) in
-    let start = c.loop-at.at - c.least-p.result in
-    let long = part-long s.values.now start (c.loop-at.at + c.least.result) some in
-    part-fills _ _ _ _ _ c.loop-at.invariant c.least.result some _
-    (λ j h. let here : start + (c.least-p.result + j) ≡ c.loop-at.at + j = omega (arith, c.least-p.ensures.0) in
-    marks-part s.l s.set s.values.now start (c.loop-at.at + c.least.result - start) (c.least-p.result + j) (omega (arith, c.least-p.ensures.0))
-    (λ q. goes_back c.loop-at.at c.least-p.result c.least-p.ensures.2 (omega arith))
+    let some : c.loop-at.at + c.min.result ≤ length s.values.now = omega arith in
+    let start = c.loop-at.at - c.min-p.result in
+    let long = part-long s.values.now start (c.loop-at.at + c.min.result) some in
+    part-fills _ _ _ _ _ c.loop-at.invariant c.min.result some _
+    (λ j h. let here : start + (c.min-p.result + j) ≡ c.loop-at.at + j = omega arith in
+    marks-part s.l s.set s.values.now start (c.loop-at.at + c.min.result - start) (c.min-p.result + j) (omega arith)
+    (λ q. goes_back c.loop-at.at c.min-p.result (λ i h k. omega arith) (omega arith))
     ∙ ap (marks_at unbroken s.l s.set s.values.now) here)
-    _ _ (omega (arith, long, c.least-p.ensures.0)) c.block.ensures
+    _ _ (omega (arith, long)) c.block.ensures
 
 pub loop-at-init : goal.loop-at-init
 loop-at-init c =
@@ -50,7 +50,7 @@ slice_bounds-block-start-in-loop-at c =
 
 pub loop-at-smaller : goal.loop-at-smaller
 loop-at-smaller c =
-    omega (arith, c.least.ensures.2 0 (omega arith) (omega arith))
+    omega arith
 
 pub returns : goal.returns
 returns c =

@@ -6,12 +6,12 @@ use Rattle.rules.proofs.codes.read_marks.Goals as goal
 
 pub returns-then-set : goal.returns-then-set
 returns-then-set c =
-    let same : bit_and c.args.set 391 ≡ c.args.set = omega arith in rw same at c.read_runs.ensures
+    let same : bit_and c.args.set 391 ≡ c.args.set = omega arith in rw same at c.read.ensures
 
 pub returns-then-set-2 : goal.returns-then-set-2
 returns-then-set-2 c =
-    let same : bit_and c.args.set 64 ≡ c.args.set = omega arith in rw same at c.read_inside.ensures
+    let same : bit_and c.args.set 64 ≡ c.args.set = omega arith in rw same at c.read-then-set-2.ensures
 
 pub returns-then-set-3 : goal.returns-then-set-3
 returns-then-set-3 c =
-    let same : bit_and c.args.set 12 ≡ c.args.set = omega arith in rw same at c.read_steps.ensures
+    let same : bit_and c.args.set 12 ≡ c.args.set = omega arith in rw same at c.read-then-set-3.ensures

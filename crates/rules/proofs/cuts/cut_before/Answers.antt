@@ -9,4 +9,4 @@ returns-then-n-q c =
 
 pub returns : goal.returns
 returns c =
-    cut-lent c.args.q _ c.args.marks.now _ (omega (arith, c.if-n-q.false)) c.least.ensures.0 c.least.ensures.1 c.least.ensures.2 c.fit.ensures
+    cut-lent c.args.q _ c.args.marks.now _ (omega (arith, c.if-n-q.false)) (omega arith) (omega arith) (λ i p q. omega arith) c.fit.ensures

@@ -1,23 +1,14 @@
 -- `sheets::reader::read_at_most` meets its contract: its tests are those of `at_most`. Assumes nothing.
-use mathlib.Core.Path.{sym, ◌∙◌}
-use Rattle.sheets.proofs.Reading.{most-none, most-taken, most-over}
+use mathlib.Core.Path.{◌≡◌, sym, ap, ◌∙◌}
+use borrow.Author.Rules.{rules}
+use Rattle.std.specs.Prelude.{Err}
+use Rattle.groups.specs.declared.Fault.{Fault}
+use Rattle.sheets.proofs.Reading.{fault-place, most-none}
 use Rattle.sheets.proofs.reader.read_at_most.Goals as goal
 
-pub read_number-requires : goal.read_number-requires
-read_number-requires c =
-    tt
-
-pub returns-in_default : goal.returns-in_default
-returns-in_default c =
+pub returns-in_err-number : goal.returns-in_err-number
+returns-in_err-number c =
     let args = c.args in
-    most-none args.most args.at _ _ (sym c.read_number.ensures ∙ c.in_default.is)
-
-pub returns-then-value-most : goal.returns-then-value-most
-returns-then-value-most c =
-    let args = c.args in
-    most-taken args.most args.at _ _ _ (sym c.read_number.ensures ∙ c.in-Number.is) c.if-value-most.true
-
-pub returns : goal.returns
-returns c =
-    let args = c.args in
-    most-over args.most args.at _ _ _ (sym c.read_number.ensures ∙ c.in-Number.is) c.if-value-most.false
+    let was = sym c.read_number.ensures ∙ c.in_err-number.was in
+    let passed_on : c.from_residual.result ≡ Err c.in_err-number.field-0.0 = search rules in
+    passed_on ∙ ap (λ (p : Fault). Err p) (fault-place args.s.now args.at _ was) ∙ most-none args.most args.at _ _ was

@@ -1,70 +1,51 @@
 -- `sheets::reader::read_head` meets its contract: its numbers are those of `said_from`, in the same order. Assumes nothing.
-use mathlib.Core.Path.{sym, ◌∙◌}
-use native.Mathlib.Omega.{arith}
+use mathlib.Core.Path.{◌≡◌, sym, ap, ◌∙◌}
+use borrow.Author.Rules.{rules}
+use Rattle.std.specs.Prelude.{Err}
 use Rattle.sheets.specs.Said.{said_from}
+use Rattle.sheets.specs.Steps.{after_head}
 use Rattle.sheets.proofs.Reading.{number_read, number-fault, number-low}
 use Rattle.sheets.proofs.reader.read_head.Goals as goal
 
-pub read_at_most-requires : goal.read_at_most-requires
-read_at_most-requires c =
-    tt
-
-pub returns-in_default : goal.returns-in_default
+pub returns-in_err-points : goal.returns-in_err-points
 unfolding said_from
-returns-in_default c =
+returns-in_err-points c =
+    let s = c.args.s.now in
+    let passed_on : c.from_residual.result ≡ Err c.in_err-points.field-0.0 = search rules in
     record {
-      said = number-fault 4096 0 _ c.args.s.now _ (sym c.read_at_most.ensures ∙ c.in_default.is);
-      few = tt;
+      said = number-fault 4096 0 _ s _ (sym c.read_at_most.ensures ∙ c.in_err-points.was) ∙ ap (after_head s) (sym passed_on);
+      few = search rules;
     }
 
-pub overflow_cast-read_at_most : goal.overflow_cast-read_at_most
-overflow_cast-read_at_most c =
-    omega arith
-
-pub read_at_most-requires-2 : goal.read_at_most-requires-2
-read_at_most-requires-2 c =
-    tt
-
-pub returns-in_default-read_at_most : goal.returns-in_default-read_at_most
+pub returns-in_err-set : goal.returns-in_err-set
 unfolding said_from
-returns-in_default-read_at_most c =
+returns-in_err-set c =
     let s = c.args.s.now in
-    let second = c.in-Number.second in
-    let first = number_read 4096 0 _ s c.in-Number.points second (sym c.read_at_most.ensures ∙ c.in-Number.is) in record {
-      said = first ∙ number-fault 511 second _ s _ (sym c.read_at_most-2.ensures ∙ c.in_default-read_at_most.is);
-      few = tt;
+    let passed_on : c.from_residual-in_err-set.result ≡ Err c.in_err-set.field-0.0 = search rules in
+    let first = number_read 4096 0 _ s _ (sym c.read_at_most.ensures ∙ c.in_ok-points.was) in
+    record {
+      said = first ∙ number-fault 511 _ _ s _ (sym (rw c.from.ensures at c.read_at_most-2.ensures) ∙ c.in_err-set.was) ∙ ap (after_head s) (sym passed_on);
+      few = search rules;
     }
 
-pub read_at_most-requires-3 : goal.read_at_most-requires-3
-read_at_most-requires-3 c =
-    tt
-
-pub returns-in_default-read_at_most-2 : goal.returns-in_default-read_at_most-2
+pub returns-in_err-marked : goal.returns-in_err-marked
 unfolding said_from
-returns-in_default-read_at_most-2 c =
+returns-in_err-marked c =
     let s = c.args.s.now in
-    let second = c.in-Number.second in
-    let third = c.in-Number-read_at_most.third in
-    let first = number_read 4096 0 _ s c.in-Number.points second (sym c.read_at_most.ensures ∙ c.in-Number.is) in
-    let next = number_read 511 second _ s c.in-Number-read_at_most.set third (sym c.read_at_most-2.ensures ∙ c.in-Number-read_at_most.is) in record {
-      said = first ∙ next ∙ number-fault c.in-Number.points third _ s _ (sym c.read_at_most-3.ensures ∙ c.in_default-read_at_most-2.is);
-      few = tt;
+    let passed_on : c.from_residual-in_err-marked.result ≡ Err c.in_err-marked.field-0.0 = search rules in
+    let first = number_read 4096 0 _ s _ (sym c.read_at_most.ensures ∙ c.in_ok-points.was) in
+    let second = number_read 511 _ _ s _ (sym (rw c.from.ensures at c.read_at_most-2.ensures) ∙ c.in_ok-set.was) in
+    record {
+      said = first ∙ second ∙ number-fault _ _ _ s _ (sym c.read_at_most-3.ensures ∙ c.in_err-marked.was) ∙ ap (after_head s) (sym passed_on);
+      few = search rules;
     }
-
-pub overflow_cast-result : goal.overflow_cast-result
-overflow_cast-result c =
-    omega (arith, number-low 511 c.in-Number.second c.args.s.now c.in-Number-read_at_most.set c.in-Number-read_at_most.third (sym c.read_at_most-2.ensures ∙ c.in-Number-read_at_most.is))
 
 pub returns : goal.returns
 unfolding said_from
 returns c =
     let s = c.args.s.now in
-    let second = c.in-Number.second in
-    let third = c.in-Number-read_at_most.third in
-    let read-points = sym c.read_at_most.ensures ∙ c.in-Number.is in
-    let first = number_read 4096 0 _ s c.in-Number.points second read-points in
-    let next = number_read 511 second _ s c.in-Number-read_at_most.set third (sym c.read_at_most-2.ensures ∙ c.in-Number-read_at_most.is) in
-    let last = number_read c.in-Number.points third _ s c.in-Number-read_at_most-2.marked c.in-Number-read_at_most-2.next (sym c.read_at_most-3.ensures ∙ c.in-Number-read_at_most-2.is) in record {
-      said = first ∙ next ∙ last;
-      few = number-low 4096 0 s c.in-Number.points second read-points;
-    }
+    let read = sym c.read_at_most.ensures ∙ c.in_ok-points.was in
+    let first = number_read 4096 0 _ s _ read in
+    let second = number_read 511 _ _ s _ (sym (rw c.from.ensures at c.read_at_most-2.ensures) ∙ c.in_ok-set.was) in
+    let third = number_read _ _ _ s _ (sym c.read_at_most-3.ensures ∙ c.in_ok-marked.was) in
+    record { said = first ∙ second ∙ third; few = number-low 4096 0 s _ read }
