@@ -8,6 +8,7 @@ mod factors;
 mod kinds;
 mod limits;
 mod marks;
+mod right;
 mod series;
 mod sigma;
 
@@ -21,6 +22,7 @@ ghost use Rattle.evaluating.specs.Centres.{limited, limits_about};
 ghost use Rattle.evaluating.specs.Sigma.{figured, estimated, sigma_hat_of, sigma_hat_df_of, estimate_of};
 
 use charts::{Chart, Refusal};
+use right::Right;
 use rules::{Limits, OWN_WIDTHS};
 use series::Series;
 
@@ -181,7 +183,7 @@ pub fn limits_about(chart: Chart, main: f64, dispersion: f64) -> Result<ChartLim
     if chart.own_wrong() {
         return Err(Refusal::Record);
     }
-    limits::limits_from(chart, main, dispersion)
+    Right { chart }.limits_from(main, dispersion)
 }
 
 /// Makes the four slices that evaluating is lent zero throughout, as evaluating does at 7.
@@ -213,9 +215,10 @@ pub fn estimate(chart: Chart, values: &[f64]) -> Result<SigmaFigures, Refusal>
     ensures { estimated result ≡ estimate_of (asked chart values.now) }
 {
     let mean = sigma::centre(chart, values)?;
+    let right = Right { chart };
     Ok(SigmaFigures {
-        sigma_hat: sigma::sigma_from(chart, mean),
-        sigma_hat_df: sigma::df_of(chart),
+        sigma_hat: right.sigma_from(mean),
+        sigma_hat_df: right.df_of(),
     })
 }
 

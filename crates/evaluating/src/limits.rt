@@ -1,7 +1,7 @@
 // The limits of both series.
 ghost use Rattle.std.specs.Prelude.{◌≡◌, ◌≤◌, false, length};
 ghost use Rattle.laws.specs.Front.{at_front};
-ghost use Rattle.charts.specs.Records.{own_wrong, record_wrong};
+ghost use Rattle.charts.specs.Records.{record_wrong};
 ghost use Rattle.evaluating.specs.Asked.{asked};
 ghost use Rattle.evaluating.specs.Series.{points_in, series_of};
 ghost use Rattle.evaluating.specs.Limits.{factor_for, main_limits, lower_limit, dispersion_limits};
@@ -10,71 +10,69 @@ ghost use Rattle.evaluating.specs.Steps.{row_of, limits_from, measured};
 use super::ChartLimits;
 use super::factors::Factor;
 use super::kinds::{Kind, kind_of};
+use super::right::Right;
 use super::series::{Series, fill, points_in};
 use charts::{Chart, Refusal};
 use rules::Limits;
 
-// A figure for individuals, and for subgroups the factor of the kind.
-#[tactic(auto, unfolding(crate::specs::Limits::factor_for, charts::specs::Records::by_kind))]
-pub fn factor_for(c: Chart, individuals: f64, ranges: Factor, deviations: Factor) -> f64
-    requires { own_wrong c ≡ false }
-    ensures { result ≡ factor_for c individuals (row_of ranges) (row_of deviations) }
-{
-    match kind_of(c) {
-        Kind::Individuals => individuals,
-        Kind::Ranges => ranges.of_size(c.size),
-        Kind::Deviations => deviations.of_size(c.size),
+impl Right {
+    // A figure for individuals, and for subgroups the factor of the kind.
+    #[tactic(auto, unfolding(crate::specs::Limits::factor_for, charts::specs::Records::by_kind))]
+    pub fn factor_for(self, individuals: f64, ranges: Factor, deviations: Factor) -> f64
+        ensures { result ≡ factor_for self.chart individuals (row_of ranges) (row_of deviations) }
+    {
+        match kind_of(self.chart) {
+            Kind::Individuals => individuals,
+            Kind::Ranges => ranges.of_size(self.chart.size),
+            Kind::Deviations => deviations.of_size(self.chart.size),
+        }
     }
-}
 
-fn main_limits(c: Chart, m: f64, d: f64) -> Limits
-    requires { own_wrong c ≡ false }
-    ensures { result ≡ main_limits c m d }
-{
-    let width = factor_for(c, 2.660, Factor::A2, Factor::A3) * d;
-    Limits {
-        ucl: m + width,
-        cl: m,
-        lcl: m - width,
+    fn main_limits(self, m: f64, d: f64) -> Limits
+        ensures { result ≡ main_limits self.chart m d }
+    {
+        let width = self.factor_for(2.660, Factor::A2, Factor::A3) * d;
+        Limits {
+            ucl: m + width,
+            cl: m,
+            lcl: m - width,
+        }
     }
-}
 
-#[tactic(auto, unfolding(crate::specs::Limits::lower_limit, charts::specs::Records::by_kind))]
-fn lower_limit(c: Chart, d: f64) -> f64
-    requires { own_wrong c ≡ false }
-    ensures { result ≡ lower_limit c d }
-{
-    match kind_of(c) {
-        Kind::Individuals => 0.0,
-        Kind::Ranges => Factor::D3.of_size(c.size) * d,
-        Kind::Deviations => Factor::B3.of_size(c.size) * d,
+    #[tactic(auto, unfolding(crate::specs::Limits::lower_limit, charts::specs::Records::by_kind))]
+    fn lower_limit(self, d: f64) -> f64
+        ensures { result ≡ lower_limit self.chart d }
+    {
+        match kind_of(self.chart) {
+            Kind::Individuals => 0.0,
+            Kind::Ranges => Factor::D3.of_size(self.chart.size) * d,
+            Kind::Deviations => Factor::B3.of_size(self.chart.size) * d,
+        }
     }
-}
 
-fn dispersion_limits(c: Chart, d: f64) -> Limits
-    requires { own_wrong c ≡ false }
-    ensures { result ≡ dispersion_limits c d }
-{
-    Limits {
-        ucl: factor_for(c, 3.267, Factor::D4, Factor::B4) * d,
-        cl: d,
-        lcl: lower_limit(c, d),
+    fn dispersion_limits(self, d: f64) -> Limits
+        ensures { result ≡ dispersion_limits self.chart d }
+    {
+        Limits {
+            ucl: self.factor_for(3.267, Factor::D4, Factor::B4) * d,
+            cl: d,
+            lcl: self.lower_limit(d),
+        }
     }
-}
 
-// The limits from the means of both series, unless one is not finite (7). Where they are finite, so are the points: a sum keeps
-// what is not.
-#[tactic(auto, unfolding(crate::specs::Steps::limits_from))]
-pub fn limits_from(c: Chart, m: f64, d: f64) -> Result<ChartLimits, Refusal>
-    requires { own_wrong c ≡ false }
-    ensures { result ≡ limits_from c m d }
-{
-    let main = main_limits(c, m, d);
-    let dispersion = dispersion_limits(c, d);
-    if rules::finite_limits(main) & rules::finite_limits(dispersion) {
-        return Ok(ChartLimits { main, dispersion });
+    // The limits from the means of both series, unless one is not finite (7). Where they are finite, so are the points: a sum keeps
+    // what is not.
+    #[tactic(auto, unfolding(crate::specs::Steps::limits_from))]
+    pub fn limits_from(self, m: f64, d: f64) -> Result<ChartLimits, Refusal>
+        ensures { result ≡ limits_from self.chart m d }
+    {
+        let main = self.main_limits(m, d);
+        let dispersion = self.dispersion_limits(d);
+        if rules::finite_limits(main) & rules::finite_limits(dispersion) {
+            return Ok(ChartLimits { main, dispersion });
+        }
+        Err(Refusal::Overflow)
     }
-    Err(Refusal::Overflow)
 }
 
 // Writes both series, and gives their limits, unless one is not finite (7).
@@ -94,9 +92,5 @@ pub fn measure(
     let k = points_in(c, Series::Dispersion);
     fill(c, Series::Main, values, main);
     fill(c, Series::Dispersion, values, dispersion);
-    limits_from(
-        c,
-        arith::mean_of(&main[..n]),
-        arith::mean_of(&dispersion[..k]),
-    )
+    Right { chart: c }.limits_from(arith::mean_of(&main[..n]), arith::mean_of(&dispersion[..k]))
 }

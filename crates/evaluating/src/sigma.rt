@@ -1,6 +1,6 @@
 // The sigma figures.
 ghost use Rattle.std.specs.Prelude.{◌≡◌, ◌≤◌, false, length};
-ghost use Rattle.charts.specs.Records.{own_wrong, record_wrong};
+ghost use Rattle.charts.specs.Records.{record_wrong};
 ghost use Rattle.evaluating.specs.Asked.{asked};
 ghost use Rattle.evaluating.specs.Limits.{centre_of};
 ghost use Rattle.evaluating.specs.Sigma.{figured, sigma_number, unless_refused, sigma_from, equivalent_df, range_cv2, deviation_cv2, df_of};
@@ -8,6 +8,7 @@ ghost use Rattle.evaluating.specs.Steps.{measured};
 
 use super::factors::Factor;
 use super::kinds::{Kind, kind_of};
+use super::right::Right;
 use super::series::{Series, points_in};
 use super::{ChartLimits, checks, limits};
 use charts::{Chart, Refusal};
@@ -46,15 +47,6 @@ pub fn centre(c: Chart, values: &[f64]) -> Result<f64, Refusal>
     Ok(measure(c, values)?.dispersion.cl)
 }
 
-// The estimate of sigma, from the mean of the dispersion series.
-#[tactic(auto, unfolding(crate::specs::Sigma::sigma_from))]
-pub fn sigma_from(c: Chart, mean: f64) -> f64
-    requires { own_wrong c ≡ false }
-    ensures { result ≡ sigma_from c mean }
-{
-    mean / limits::factor_for(c, Factor::D2.of_size(2), Factor::D2, Factor::C4)
-}
-
 fn equivalent_df(cv2: f64) -> f64
     ensures { result ≡ equivalent_df cv2 }
 {
@@ -75,16 +67,28 @@ fn deviation_cv2(f: f64, m: f64) -> f64
     (1.0 - f * f) / (f * f * m)
 }
 
-// The degrees of freedom.
-#[tactic(auto, unfolding(crate::specs::Sigma::df_of, charts::specs::Records::by_kind))]
-pub fn df_of(c: Chart) -> f64
-    requires { own_wrong c ≡ false }
-    ensures { result ≡ df_of c }
-{
-    let n = std::num::nearest_u64_to_f64(points_in(c, Series::Dispersion) as u64);
-    match kind_of(c) {
-        Kind::Individuals => 0.62 * n,
-        Kind::Ranges => equivalent_df(range_cv2(Factor::D4.of_size(c.size), n)),
-        Kind::Deviations => equivalent_df(deviation_cv2(Factor::C4.of_size(c.size), n)),
+impl Right {
+    // The estimate of sigma, from the mean of the dispersion series.
+    #[tactic(auto, unfolding(crate::specs::Sigma::sigma_from))]
+    pub fn sigma_from(self, mean: f64) -> f64
+        ensures { result ≡ sigma_from self.chart mean }
+    {
+        mean / self.factor_for(Factor::D2.of_size(2), Factor::D2, Factor::C4)
+    }
+
+    // The degrees of freedom.
+    #[tactic(auto, unfolding(crate::specs::Sigma::df_of, charts::specs::Records::by_kind))]
+    pub fn df_of(self) -> f64
+        ensures { result ≡ df_of self.chart }
+    {
+        let n = std::num::nearest_u64_to_f64(points_in(self.chart, Series::Dispersion) as u64);
+        match kind_of(self.chart) {
+            Kind::Individuals => 0.62 * n,
+            Kind::Ranges => equivalent_df(range_cv2(Factor::D4.of_size(self.chart.size), n)),
+            Kind::Deviations => equivalent_df(deviation_cv2(
+                Factor::C4.of_size(self.chart.size),
+                n,
+            )),
+        }
     }
 }

@@ -20,13 +20,9 @@ right : (c : In_ok-mean) → own_wrong c.args.chart ≡ false
 right c =
     own_of c.args.chart (length c.args.values.now) (record-right (asked c.args.chart c.args.values.now) (accepted c))
 
-pub sigma_from-requires : goal.sigma_from-requires
-sigma_from-requires c =
-    right c
-
-pub df_of-requires : goal.df_of-requires
-df_of-requires c =
-    right (goal.at.df_of-requires c).In_ok-mean
+pub invariant_of-right : goal.invariant_of-right
+invariant_of-right c =
+    record { own = right (goal.at.invariant_of-right c).In_ok-mean }
 
 pub returns-in_err-mean : goal.returns-in_err-mean
 unfolding estimate_of sigma_hat_of sigma_hat_df_of unless_refused

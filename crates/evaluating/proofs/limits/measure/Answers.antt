@@ -7,9 +7,9 @@ use Rattle.evaluating.specs.Steps.{limits_from}
 use Rattle.evaluating.proofs.Measures.{front-series, from-series}
 use Rattle.evaluating.proofs.limits.measure.Goals as goal
 
-pub limits_from-requires : goal.limits_from-requires
-limits_from-requires c =
-    own_of c.args.c (length c.args.values.now) c.requires.0
+pub invariant_of-limits_from : goal.invariant_of-limits_from
+invariant_of-limits_from c =
+    record { own = own_of c.args.c (length c.args.values.now) c.requires.0 }
 
 pub returns-clause-limits : goal.returns-clause-limits
 returns-clause-limits c =
