@@ -10,6 +10,8 @@ use Rattle.twin.proofs.dramulenz_write.Reads as write
 use Rattle.twin.proofs.dramulenz_write.Kinds as write-kinds
 use Rattle.twin.proofs.dramulenz_root.Reads as root
 use Rattle.twin.proofs.dramulenz_root.Kinds as root-kinds
+use Rattle.twin.proofs.RefusalNumbered.number.Reads as refusal-number
+use Rattle.twin.proofs.RefusalNumbered.number.Kinds as refusal-number-kinds
 use Rattle.promises.proofs.Coincide.{Coincide}
 
 mark-one : Coincide 2 mark-kinds.ps mark-kinds.r mark.Post {Seen = ℕ × List ℕ} (λ κs x s. (x, s.1.1.1.1.1.0.now))
@@ -23,3 +25,6 @@ write-one κs a x y s t p q = ap₂ (λ (u : ℕ) (v : List ℕ). (u, v)) (p.0 �
 
 root-one : Coincide 0 root-kinds.ps root-kinds.r root.Post (λ κs x s. x)
 root-one κs a x y s t p q = p ∙ sym q
+
+refusal-number-one : Coincide 1 refusal-number-kinds.ps refusal-number-kinds.r refusal-number.Post (λ κs x s. x)
+refusal-number-one κs a x y s t p q = p ∙ sym q
