@@ -82,11 +82,6 @@ small-front n l h each i k =
     let i-in : i < n = omega (arith, length-take-le n l h) in
     rw (get_or-take n l i 0 i-in) (each i i-in)
 
-pub fine-front : {S : Type 0} (k : Kind S) (n : ℕ) (l : List S) → n ≤ length l → FineTo k n l → FineTo k (length (take n l)) (take n l)
-fine-front k n l h each i q =
-    let i-in : i < n = omega (arith, length-take-le n l h) in
-    rw (get_or-take n l i k.nothing i-in) (each i i-in)
-
 -- a size that a P chart has
 pub inspected : (n : ℕ) → not (too_large n) ≡ true → n ≤ 4294967295
 inspected n h = ltb-false 4294967295 n (not-true (too_large n) h)
