@@ -98,18 +98,16 @@ fn read_pairs(s: &[u8], set: u16, stated: &mut [u16], from: Reach) -> Reach
     ensures { Onward s.now set stated.old from stated.new result }
 {
     let near_end = s.len().saturating_sub(3);
-    let mut point = from.point;
-    let mut at = from.at;
-    let mut left = from.left;
+    let mut r = from;
     // By hand: the place moves by four bytes in a turn, and how far it came is given back.
-    while 1 < left && at < near_end {
+    while 1 < r.left && r.at < near_end {
         // skip, marks, skip, marks
-        let a = u16::from(s[at]);
-        let b = u16::from(s[at + 1]);
-        let c = u16::from(s[at + 2]);
-        let d = u16::from(s[at + 3]);
-        let first = point + a as usize;
-        let second = first + 1 + c as usize;
+        let a = u16::from(s[r.at]);
+        let b = u16::from(s[r.at + 1]);
+        let c = u16::from(s[r.at + 2]);
+        let d = u16::from(s[r.at + 3]);
+        let first = r.point + usize::from(a);
+        let second = first + 1 + usize::from(c);
         if (stated.len() <= second) | (b == 0) | (d == 0) {
             break;
         }
@@ -118,11 +116,13 @@ fn read_pairs(s: &[u8], set: u16, stated: &mut [u16], from: Reach) -> Reach
         }
         stated[first] = b;
         stated[second] = d;
-        point = second + 1;
-        at += 4;
-        left -= 2;
+        r = Reach {
+            point: second + 1,
+            at: r.at + 4,
+            left: r.left - 2,
+        };
     }
-    Reach { point, at, left }
+    r
 }
 
 // Goes on over entries of three bytes, whose marks are two groups.
@@ -131,15 +131,13 @@ fn read_long(s: &[u8], set: u16, stated: &mut [u16], from: Reach) -> Reach
     ensures { Onward s.now set stated.old from stated.new result }
 {
     let near_end = s.len().saturating_sub(3);
-    let mut point = from.point;
-    let mut at = from.at;
-    let mut left = from.left;
+    let mut r = from;
     // By hand: the place moves by three bytes in a turn, and how far it came is given back.
-    while 0 < left && at < near_end {
-        let skip = u16::from(s[at]);
-        let low = u16::from(s[at + 1]);
-        let high = u16::from(s[at + 2]);
-        let first = point + skip as usize;
+    while 0 < r.left && r.at < near_end {
+        let skip = u16::from(s[r.at]);
+        let low = u16::from(s[r.at + 1]);
+        let high = u16::from(s[r.at + 2]);
+        let first = r.point + usize::from(skip);
         let marks = joined(low, high);
         if (stated.len() <= first) | (low < 128) | (high == 0) {
             break;
@@ -148,11 +146,13 @@ fn read_long(s: &[u8], set: u16, stated: &mut [u16], from: Reach) -> Reach
             break;
         }
         stated[first] = marks;
-        point = first + 1;
-        at += 3;
-        left -= 1;
+        r = Reach {
+            point: first + 1,
+            at: r.at + 3,
+            left: r.left - 1,
+        };
     }
-    Reach { point, at, left }
+    r
 }
 
 // The entries behind a head, to the end of the bytes: `stated`, which is all zero, gets the marks of every point.
