@@ -10,6 +10,8 @@ use numbers::Numbered;
 use rules::MOST;
 use sets::RuleSet;
 
+// Kinds are numbers and no enum: a stored record may hold any, and 14 refuses what is none.
+
 /// The kind of a chart of individuals and moving ranges.
 pub const INDIVIDUALS: u64 = 1;
 

@@ -380,7 +380,8 @@ fn mark_few(l: Lines, set: u16, values: &[f64], out: &mut [u16])
     block(l, set, values, 0, &mut c[0..64], out);
 }
 
-// The same for many, block by block: a block and its codes stay in the nearest cache.
+// The same for many, block by block: a block and its codes stay in the nearest cache. No iterator of the library gives each block
+// with the fourteen values before it.
 fn mark_many(l: Lines, set: u16, values: &[f64], out: &mut [u16])
     requires { length values.now ≤ length out.old }
     ensures { out.new ≡ at_front (marks_by unbroken l set values.now) out.old }

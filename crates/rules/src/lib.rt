@@ -17,6 +17,8 @@ use sets::{RuleSet, Test};
 /// The most values of a series.
 pub const MOST: usize = 4096;
 
+// Width modes are numbers and no enum: a caller may give any, and 21 refuses what is none.
+
 /// The default width mode: one and two sigma are measured between the upper limit and the centre line, and serve below it too.
 pub const SAME_WIDTHS: u64 = 0;
 
