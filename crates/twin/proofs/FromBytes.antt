@@ -1,10 +1,10 @@
 -- Bytes read as values, and marks written as bytes. Assumes nothing.
 use mathlib.Core.Path.{◌≡◌, refl, ap, ◌∙◌}
-use mathlib.Core.List.{List, [], ◌∷◌}
+use mathlib.Core.List.{List, [], ◌∷◌, ◌++◌}
 use Prim.Native.Nat.{ℕ, zero, suc, ◌+◌, ◌*◌, ◌/◌, ◌%◌, ◌≤◌, ◌<◌}
 use native.Mathlib.Nat.{le_of_suc-le-suc}
 use native.Mathlib.Omega.{arith}
-use lib.ListN.{length, take, drop, get_or, length-drop}
+use lib.ListN.{length, take, drop, get_or, set, length-drop}
 use Rattle.std.specs.Int.{w64, from_le_bytes}
 use Rattle.std.specs.Simd.{first_chunks}
 use Rattle.std.proofs.lemmas.List.{drop-drop}
@@ -68,3 +68,11 @@ high_byte (m ∷ ms) zero h = refl
 high_byte (m ∷ ms) (suc i) h =
     let e : 2 * suc i + 1 ≡ suc (suc (2 * i + 1)) = omega arith in
     ap (λ (k : ℕ). get_or (m % 256 ∷ m / 256 ∷ bytes_of ms) k 0) e ∙ high_byte ms i (le_of_suc-le-suc h)
+
+-- two bytes in the place of two are two that are set
+pub two_set : (out : List ℕ) (i a b : ℕ) → i + 2 ≤ length out
+    → take i out ++ ((a ∷ b ∷ []) ++ drop 2 (drop i out)) ≡ set (set out i a) (suc i) b
+two_set [] i a b h = absurd (omega arith)
+two_set (x ∷ []) i a b h = absurd (omega arith)
+two_set (x ∷ y ∷ out) zero a b h = refl
+two_set (x ∷ y ∷ out) (suc i) a b h = ap (λ (l : List ℕ). x ∷ l) (two_set (y ∷ out) i a b (omega (arith, h)))

@@ -113,9 +113,7 @@ fn put_marks(ms: &[u16], out: &mut [u8])
     ensures { out.new ≡ at_front (bytes_of ms.now) out.old }
 {
     for (i, m) in ms.iter().enumerate() {
-        let pair = m.to_le_bytes();
-        out[2 * i] = pair[0];
-        out[2 * i + 1] = pair[1];
+        out[2 * i..2 * i + 2].copy_from_slice(&m.to_le_bytes());
     }
 }
 
