@@ -41,15 +41,6 @@ fault-number : (why : Refusal) → packed (told_by (as_fault why)) ≡ number wh
 fault-number Ragged = refl
 fault-number (Series why) = omega arith
 
--- ---- what reading answered
-
-module _ (bs : List ℕ) (set : ℕ) (r : Result ⊤ Refusal) (told : numbered r ≡ early bs set) where
-  pub starts : r ≡ Ok tt → early bs set ≡ 0
-  starts is = sym told ∙ ap numbered is
-
-  pub stopped : (why : Refusal) → r ≡ Err why → number why ≡ early bs set
-  stopped why is = sym (ap numbered is) ∙ told
-
 -- what is not refused before a value is read
 pub record Begun (bs : List ℕ) (set : ℕ) : Type 0 where
   pub eights : not_eights bs ≡ false
@@ -63,6 +54,18 @@ begun bs set e =
     let b = accepted (ltb most (length bs / 8)) 5 _ (omega arith) a.1 in
     let d = accepted (ltb 511 set) 4 _ (omega arith) b.1 in
     record { eights = a.0; few = ltb-false most (length bs / 8) b.0; small = ltb-false 511 set d.0 }
+
+-- ---- what reading answered
+
+module _ (bs : List ℕ) (set : ℕ) (r : Result ⊤ Refusal) (told : numbered r ≡ early bs set) where
+  pub starts : r ≡ Ok tt → early bs set ≡ 0
+  starts is = sym told ∙ ap numbered is
+
+  pub begins : r ≡ Ok tt → Begun bs set
+  begins is = begun bs set (starts is)
+
+  pub stopped : (why : Refusal) → r ≡ Err why → number why ≡ early bs set
+  stopped why is = sym (ap numbered is) ∙ told
 
 -- the values stand at the front
 pub values-front : (bs : List ℕ) (set : ℕ) → early bs set ≡ 0 → (old vs : List Float)

@@ -7,7 +7,7 @@ use Rattle.sheets.specs.Answers.{checked as verdict}
 use Rattle.twin.specs.declared.Fault.TheVariants.{Sheet}
 use Rattle.twin.specs.Answers.{packed}
 use Rattle.twin.specs.Steps.{as_fault, checked}
-use Rattle.twin.proofs.Refusing.{starts, stopped, begun, check-stops, check-whole}
+use Rattle.twin.proofs.Refusing.{starts, stopped, begins, check-stops, check-whole}
 use Rattle.twin.proofs.check_in.Goals as goal
 
 pub returns-in_err-read_values : goal.returns-in_err-read_values
@@ -22,14 +22,13 @@ returns-in_err-read_values g c =
 pub overflow_cast-set : goal.overflow_cast-set
 overflow_cast-set g c =
     let a = c.args in
-    let started = starts a.values.now a.set c.read_values.result c.read_values.ensures.answer c.in_ok-read_values.was in
-    omega (arith, (begun a.values.now a.set started).small)
+    omega (arith, (begins a.values.now a.set c.read_values.result c.read_values.ensures.answer c.in_ok-read_values.was).small)
 
 pub shared_whole_as_front-check : goal.shared_whole_as_front-check
 shared_whole_as_front-check g c =
     let a = c.args in
-    let started = starts a.values.now a.set c.read_values.result c.read_values.ensures.answer c.in_ok-read_values.was in
-    (c.requires.0 (begun a.values.now a.set started).few, omega (arith, c.requires.1))
+    let began = begins a.values.now a.set c.read_values.result c.read_values.ensures.answer c.in_ok-read_values.was in
+    (c.requires.0 began.few, omega (arith, c.requires.1))
 
 pub returns-in_err-check : goal.returns-in_err-check
 returns-in_err-check g c =

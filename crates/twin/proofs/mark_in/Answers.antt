@@ -5,7 +5,7 @@ use borrow.Author.Rules.{rules}
 use Rattle.std.specs.Prelude.{Err}
 use Rattle.twin.specs.declared.Refusal.TheVariants.{Series}
 use Rattle.twin.specs.Steps.{numbered}
-use Rattle.twin.proofs.Refusing.{starts, stopped, begun, mark-stops}
+use Rattle.twin.proofs.Refusing.{starts, stopped, begins, mark-stops}
 use Rattle.twin.proofs.Marking.{mark-refused, mark-short, mark-done}
 use Rattle.twin.proofs.mark_in.Goals as goal
 
@@ -22,14 +22,13 @@ returns-in_err-read_values g c =
 pub overflow_cast-set : goal.overflow_cast-set
 overflow_cast-set g c =
     let a = c.args in
-    let started = starts a.values.now a.set c.read_values.result c.read_values.ensures.answer c.in_ok-read_values.was in
-    omega (arith, (begun a.values.now a.set started).small)
+    omega (arith, (begins a.values.now a.set c.read_values.result c.read_values.ensures.answer c.in_ok-read_values.was).small)
 
 pub shared_whole_as_front-mark : goal.shared_whole_as_front-mark
 shared_whole_as_front-mark g c =
     let a = c.args in
-    let started = starts a.values.now a.set c.read_values.result c.read_values.ensures.answer c.in_ok-read_values.was in
-    (c.requires.0 (begun a.values.now a.set started).few, omega (arith, c.requires.1))
+    let began = begins a.values.now a.set c.read_values.result c.read_values.ensures.answer c.in_ok-read_values.was in
+    (c.requires.0 began.few, omega (arith, c.requires.1))
 
 pub returns-in_err-mark : goal.returns-in_err-mark
 returns-in_err-mark g c =

@@ -7,7 +7,7 @@ use Rattle.sheets.specs.Answers.{written as sent}
 use Rattle.twin.specs.declared.Refusal.TheVariants.{Series}
 use Rattle.twin.specs.Answers.{packed_length}
 use Rattle.twin.specs.Steps.{written}
-use Rattle.twin.proofs.Refusing.{starts, stopped, begun, write-stops, write-whole}
+use Rattle.twin.proofs.Refusing.{starts, stopped, begins, write-stops, write-whole}
 use Rattle.twin.proofs.write_in.Goals as goal
 
 pub returns-in_err-read_values : goal.returns-in_err-read_values
@@ -23,14 +23,13 @@ returns-in_err-read_values g c =
 pub overflow_cast-set : goal.overflow_cast-set
 overflow_cast-set g c =
     let a = c.args in
-    let started = starts a.values.now a.set c.read_values.result c.read_values.ensures.answer c.in_ok-read_values.was in
-    omega (arith, (begun a.values.now a.set started).small)
+    omega (arith, (begins a.values.now a.set c.read_values.result c.read_values.ensures.answer c.in_ok-read_values.was).small)
 
 pub shared_whole_as_front-write : goal.shared_whole_as_front-write
 shared_whole_as_front-write g c =
     let a = c.args in
-    let started = starts a.values.now a.set c.read_values.result c.read_values.ensures.answer c.in_ok-read_values.was in
-    (c.requires.0 (begun a.values.now a.set started).few, omega (arith, c.requires.1))
+    let began = begins a.values.now a.set c.read_values.result c.read_values.ensures.answer c.in_ok-read_values.was in
+    (c.requires.0 began.few, omega (arith, c.requires.1))
 
 pub returns-in_err-write : goal.returns-in_err-write
 returns-in_err-write g c =
