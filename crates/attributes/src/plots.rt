@@ -21,7 +21,7 @@ impl From<points::Refusal> for Refusal {
     }
 }
 
-// Counts that 14 does not refuse fit a u32, whose cast takes least.
+// Of n samples, in slices that may be longer. Counts that 14 does not refuse fit a u32, whose cast takes least.
 fn fill_values(n: usize, counts: &[u64], sizes: &[f64], out: &mut [f64])
     requires { (n ≤ length counts.now) × (n ≤ length sizes.now) × (n ≤ length out.old) × SmallTo n counts.now }
     ensures { out.new ≡ at_front (values_of counts.now (take n sizes.now)) out.old }

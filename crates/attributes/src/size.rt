@@ -10,6 +10,8 @@ ghost use Rattle.attributes.specs.Steps.{tested, SmallTo, FineTo};
 use super::Refusal;
 
 /// The size of a sample: how many parcels were inspected, of a P chart (u64), or units, of a U chart (f64).
+///
+/// Slices may be longer than the samples that count, so how many these are comes beside them.
 pub trait Size: Copy {
     ghost kind: { Kind Self };
 

@@ -183,27 +183,6 @@ fn outside(high: f64, low: f64, up: u16, down: u16) -> Zone
     }
 }
 
-// What all families put into codes that are clear.
-fn families(set: u16, l: Lines, values: &[f64], c: &mut [u16])
-    requires { (16 ≤ length values.now) × (length values.now ≤ length c.old) × Clear c.old }
-    ensures { CodesOf set l values.now c.new }
-{
-    let limits = outside(l.ucl, l.lcl, 0x0001, 0x0001);
-    let centre = outside(l.cl, l.cl, 0x0102, 0x4200);
-    let two_sigma = outside(l.above2, l.below2, 0x0010, 0x1000);
-    let one_sigma = outside(l.above1, l.below1, 0x00a0, 0x2080);
-    let inside = Inside {
-        high: l.above1,
-        low: l.below1,
-    };
-    put(set & LIMITS != 0, limits, values, c);
-    put(set & CENTRE != 0, centre, values, c);
-    put(set & TWO_SIGMA != 0, two_sigma, values, c);
-    put(set & ONE_SIGMA != 0, one_sigma, values, c);
-    put(set & INSIDE != 0, inside, values, c);
-    put(set & STEPS != 0, Step, values, c);
-}
-
 // Up to sixteen values at the front of sixteen.
 fn pad(values: &[f64], v: &mut [f64; 16])
     requires { (length values.now ≤ 16) × (length v.old ≡ 16) }
@@ -211,20 +190,6 @@ fn pad(values: &[f64], v: &mut [f64; 16])
     ensures sixteen { length v.new ≡ 16 }
 {
     v[..values.len()].copy_from_slice(values);
-}
-
-// The codes of every value, from the front of `c` on, which is clear. Fewer than sixteen are padded.
-fn codes(set: u16, l: Lines, values: &[f64], c: &mut [u16])
-    requires { (16 ≤ length c.old) × (length values.now ≤ length c.old) × Clear c.old }
-    ensures { CodesOf set l values.now c.new }
-{
-    if values.len() < 16 {
-        let mut v = [0.0f64; 16];
-        pad(values, &mut v);
-        families(set, l, &v[0..16], c);
-        return;
-    }
-    families(set, l, values, c);
 }
 
 // The tests by their bits: of two signals, one and the one eight places above.
@@ -303,7 +268,8 @@ fn standing_at(c: &[u16], i: usize) -> u16
     )
 }
 
-// The marks of m positions, read off the fifteen codes that end at each, wherever their windows reach. What is kept of the set is a
+// The marks of m positions, read off the fifteen codes that end at each, wherever their windows reach. The room may be longer than
+// the marks, so their number comes beside it, and the contract says that what follows is untouched. What is kept of the set is a
 // constant, so that LLVM leaves out what only the other tests are for.
 fn read<const KEPT: u16>(set: u16, c: &[u16], m: usize, out: &mut [u16])
     requires { (m + 14 ≤ length c.now) × (m ≤ length out.old) }
@@ -359,75 +325,112 @@ pub fn fit(from: usize, k: usize, out: &mut [u16])
     }
 }
 
-// The marks of a block, before which come the first p of the values, at most fourteen; `c` is room for codes, which is clear.
-fn block(l: Lines, set: u16, values: &[f64], p: usize, c: &mut [u16], out: &mut [u16])
-    requires { (p ≤ 14) × (p ≤ length values.now) × (length values.now + 14 ≤ length c.old + p) × (length values.now ≤ length out.old + p) × (30 ≤ length c.old) × Clear c.old }
-    ensures { out.new ≡ at_front (tabulate (λ i. marks_at unbroken l set values.now (p + i)) (length values.now - p)) out.old }
-{
-    let free = 14 - p;
-    let m = values.len() - p;
-    codes(set, l, values, &mut c[free..]);
-    read_marks(set, c, m, out);
-    fit(p, free.min(m), out);
+// What values are marked by.
+#[derive(Clone, Copy)]
+pub struct Marker {
+    pub lines: Lines,
+    pub set: u16,
 }
 
-// The marks of every position of few values: one block, so that little room has to be cleared.
-fn mark_few(l: Lines, set: u16, values: &[f64], out: &mut [u16])
-    requires { (length values.now ≤ 50) × (length values.now ≤ length out.old) }
-    ensures { out.new ≡ at_front (marks_by unbroken l set values.now) out.old }
-{
-    let mut c = [0u16; 64];
-    block(l, set, values, 0, &mut c[0..64], out);
-}
+impl Marker {
+    // What all families put into codes that are clear.
+    fn families(self, values: &[f64], c: &mut [u16])
+        requires { (16 ≤ length values.now) × (length values.now ≤ length c.old) × Clear c.old }
+        ensures { CodesOf self.set self.lines values.now c.new }
+    {
+        let limits = outside(self.lines.ucl, self.lines.lcl, 0x0001, 0x0001);
+        let centre = outside(self.lines.cl, self.lines.cl, 0x0102, 0x4200);
+        let two_sigma = outside(self.lines.above2, self.lines.below2, 0x0010, 0x1000);
+        let one_sigma = outside(self.lines.above1, self.lines.below1, 0x00a0, 0x2080);
+        let inside = Inside {
+            high: self.lines.above1,
+            low: self.lines.below1,
+        };
+        put(self.set & LIMITS != 0, limits, values, c);
+        put(self.set & CENTRE != 0, centre, values, c);
+        put(self.set & TWO_SIGMA != 0, two_sigma, values, c);
+        put(self.set & ONE_SIGMA != 0, one_sigma, values, c);
+        put(self.set & INSIDE != 0, inside, values, c);
+        put(self.set & STEPS != 0, Step, values, c);
+    }
 
-// The same for many, block by block: a block and its codes stay in the nearest cache. No iterator of the library gives each block
-// with the fourteen values before it.
-fn mark_many(l: Lines, set: u16, values: &[f64], out: &mut [u16])
-    requires { length values.now ≤ length out.old }
-    ensures { out.new ≡ at_front (marks_by unbroken l set values.now) out.old }
-{
-    let n = values.len();
-    let mut at = 0;
-    while at < n {
-        let p = at.min(14);
-        let start = at - p;
-        let end = at + (n - at).min(498);
-        let mut c = [0u16; 512];
-        block(
-            l,
-            set,
-            &values[start..end],
-            p,
-            &mut c[0..512],
-            &mut out[at..],
-        );
-        at = end;
+    // The codes of every value, from the front of `c` on, which is clear. Fewer than sixteen are padded.
+    fn codes(self, values: &[f64], c: &mut [u16])
+        requires { (16 ≤ length c.old) × (length values.now ≤ length c.old) × Clear c.old }
+        ensures { CodesOf self.set self.lines values.now c.new }
+    {
+        if values.len() < 16 {
+            let mut v = [0.0f64; 16];
+            pad(values, &mut v);
+            self.families(&v[0..16], c);
+            return;
+        }
+        self.families(values, c);
     }
-}
 
-// The same for a set that has no test but the first, whose windows are single values: no codes are needed.
-fn mark_beyond(l: Lines, set: u16, values: &[f64], out: &mut [u16])
-    requires { (set < 2) × (length values.now ≤ length out.old) }
-    ensures { out.new ≡ at_front (marks_by unbroken l set values.now) out.old }
-{
-    for i in 0..values.len() {
-        let v = values[i];
-        out[i] = set & (((l.ucl < v) | (v < l.lcl)) as u16);
+    // The marks of a block, before which come the first p of the values, at most fourteen; `c` is room for codes, which is clear.
+    fn block(self, values: &[f64], p: usize, c: &mut [u16], out: &mut [u16])
+        requires { (p ≤ 14) × (p ≤ length values.now) × (length values.now + 14 ≤ length c.old + p) × (length values.now ≤ length out.old + p) × (30 ≤ length c.old) × Clear c.old }
+        ensures { out.new ≡ at_front (tabulate (λ i. marks_at unbroken self.lines self.set values.now (p + i)) (length values.now - p)) out.old }
+    {
+        let free = 14 - p;
+        let m = values.len() - p;
+        self.codes(values, &mut c[free..]);
+        read_marks(self.set, c, m, out);
+        fit(p, free.min(m), out);
     }
-}
 
-// The marks of every position at the front of `out`.
-pub fn fill(l: Lines, set: u16, values: &[f64], out: &mut [u16])
-    requires { length values.now ≤ length out.old }
-    ensures { out.new ≡ at_front (marks_by unbroken l set values.now) out.old }
-{
-    if set < 2 {
-        mark_beyond(l, set, values, out);
-        return;
+    // The marks of every position of few values: one block, so that little room has to be cleared.
+    fn mark_few(self, values: &[f64], out: &mut [u16])
+        requires { (length values.now ≤ 50) × (length values.now ≤ length out.old) }
+        ensures { out.new ≡ at_front (marks_by unbroken self.lines self.set values.now) out.old }
+    {
+        let mut c = [0u16; 64];
+        self.block(values, 0, &mut c[0..64], out);
     }
-    if values.len() <= 50 {
-        mark_few(l, set, values, out);
-        return;
+
+    // The same for many, block by block: a block and its codes stay in the nearest cache. No iterator of the library gives each block
+    // with the fourteen values before it.
+    fn mark_many(self, values: &[f64], out: &mut [u16])
+        requires { length values.now ≤ length out.old }
+        ensures { out.new ≡ at_front (marks_by unbroken self.lines self.set values.now) out.old }
+    {
+        let n = values.len();
+        let mut at = 0;
+        while at < n {
+            let p = at.min(14);
+            let start = at - p;
+            let end = at + (n - at).min(498);
+            let mut c = [0u16; 512];
+            self.block(&values[start..end], p, &mut c[0..512], &mut out[at..]);
+            at = end;
+        }
     }
-    mark_many(l, set, values, out);
+
+    // The same for a set that has no test but the first, whose windows are single values: no codes are needed.
+    fn mark_beyond(self, values: &[f64], out: &mut [u16])
+        requires { (self.set < 2) × (length values.now ≤ length out.old) }
+        ensures { out.new ≡ at_front (marks_by unbroken self.lines self.set values.now) out.old }
+    {
+        for i in 0..values.len() {
+            let v = values[i];
+            out[i] = self.set & (((self.lines.ucl < v) | (v < self.lines.lcl)) as u16);
+        }
+    }
+
+    // The marks of every position at the front of `out`.
+    pub fn fill(self, values: &[f64], out: &mut [u16])
+        requires { length values.now ≤ length out.old }
+        ensures { out.new ≡ at_front (marks_by unbroken self.lines self.set values.now) out.old }
+    {
+        if self.set < 2 {
+            self.mark_beyond(values, out);
+            return;
+        }
+        if values.len() <= 50 {
+            self.mark_few(values, out);
+            return;
+        }
+        self.mark_many(values, out);
+    }
 }

@@ -11,6 +11,7 @@ ghost use Rattle.rules.specs.Finite.{finite_limits};
 ghost use Rattle.rules.specs.Terms.{told};
 ghost use Rattle.rules.specs.Marking.{number, numbered, refusal, answer_of, marks_after};
 
+use codes::Marker;
 use numbers::Numbered;
 use sets::{RuleSet, Test};
 
@@ -238,7 +239,11 @@ pub fn mark(values: &[f64], terms: Terms, set: RuleSet, marks: &mut [u16]) -> Re
     if marks.len() < n {
         return Err(Refusal::TooShort);
     }
-    codes::fill(lines_of(terms.limits, terms.width), set.mask, values, marks);
+    let marker = Marker {
+        lines: lines_of(terms.limits, terms.width),
+        set: set.mask,
+    };
+    marker.fill(values, marks);
     cuts::part(terms.stops, terms.moving, &mut marks[..n]);
     Ok(())
 }

@@ -1,13 +1,13 @@
--- `rules::codes::mark_beyond` meets its contract. The marks are written one after the other. Assumes nothing.
+-- `rules::codes::Marker::mark_beyond` meets its contract. The marks are written one after the other. Assumes nothing.
 use native.Mathlib.Omega.{arith}
 use Rattle.laws.proofs.Filling.{tabling-starts, tabling-room, tabling-goes-on, tabling-ends}
 use Rattle.rules.proofs.Single.{marks-single}
-use Rattle.rules.proofs.codes.mark_beyond.Goals as goal
+use Rattle.rules.proofs.codes.Marker.mark_beyond.Goals as goal
 
 pub loop-i-preserved : goal.loop-i-preserved
 loop-i-preserved c =
     tabling-goes-on _ _ _ _ _ c.loop-i.invariant _ c.loop-i-test.true
-    (marks-single c.args.l c.args.set c.args.values.now c.loop-i.i c.requires.0)
+    (marks-single c.args.self.lines c.args.self.set c.args.values.now c.loop-i.i c.requires.0)
 
 pub loop-i-init : goal.loop-i-init
 loop-i-init c =

@@ -1,4 +1,4 @@
--- `rules::codes::mark_many` meets its contract: each block brings the next marks. Assumes nothing.
+-- `rules::codes::Marker::mark_many` meets its contract: each block brings the next marks. Assumes nothing.
 use mathlib.Core.Path.{◌≡◌, ap, ◌∙◌}
 use Prim.Native.Nat.{◌+◌, ◌-◌, ◌≤◌}
 use native.Mathlib.Omega.{arith}
@@ -9,7 +9,7 @@ use Rattle.rules.specs.Marking.{marks_at}
 use Rattle.rules.proofs.Blocks.{marks-part, goes_back}
 use Rattle.rules.proofs.Making.{clear-zeros}
 use Rattle.rules.proofs.Parts.{part-long, part-start, part_room, part-fills}
-use Rattle.rules.proofs.codes.mark_many.Goals as goal
+use Rattle.rules.proofs.codes.Marker.mark_many.Goals as goal
 
 pub block-requires : goal.block-requires
 block-requires c =
@@ -31,9 +31,9 @@ loop-at-preserved c =
     let long = part-long s.values.now start (c.loop-at.at + c.min.result) some in
     part-fills _ _ _ _ _ c.loop-at.invariant c.min.result some _
     (λ j h. let here : start + (c.min-p.result + j) ≡ c.loop-at.at + j = omega arith in
-    marks-part s.l s.set s.values.now start (c.loop-at.at + c.min.result - start) (c.min-p.result + j) (omega arith)
+    marks-part s.self.lines s.self.set s.values.now start (c.loop-at.at + c.min.result - start) (c.min-p.result + j) (omega arith)
     (λ q. goes_back c.loop-at.at c.min-p.result (λ i h k. omega arith) (omega arith))
-    ∙ ap (marks_at unbroken s.l s.set s.values.now) here)
+    ∙ ap (marks_at unbroken s.self.lines s.self.set s.values.now) here)
     _ _ (omega (arith, long)) c.block.ensures
 
 pub loop-at-init : goal.loop-at-init
