@@ -18,13 +18,7 @@ fn shows_pattern(part: &[f64], limits: Limits, width: u64, t: Test) -> bool
 {
     let mut marks = [0u16; 15];
     let set = RuleSet { mask: 1 << t.bit() };
-    let alone = Terms {
-        limits,
-        width,
-        stops: &[],
-        moving: false,
-    };
-    if rules::mark(part, alone, set, &mut marks).is_err() {
+    if rules::mark(part, Terms::alone(limits, width), set, &mut marks).is_err() {
         return false;
     }
     marks[part.len() - 1] != 0
@@ -61,7 +55,7 @@ fn window_at<'a>(series: &'a [f64], terms: Terms, at: usize, bit: u64) -> Option
 /// The window behind a mark: the part of the named series that ends at the position `at` and shows the pattern of the
 /// test with the bit number `bit`.
 ///
-/// `series` is 0 for `main` and 1 for `dispersion`, and `terms` are those of that series (see [`Terms`]). The part is one of the lent
+/// The series' number and the bit may be any: out of range they have the empty part. `series` is 0 for `main` and 1 for `dispersion`, and `terms` are those of that series (see [`Terms`]). The part is one of the lent
 /// series itself, not a copy.
 ///
 /// # Refusals

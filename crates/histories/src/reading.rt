@@ -9,7 +9,7 @@ ghost use Rattle.histories.specs.Taking.{read, marks_at};
 
 use super::Lane;
 
-// The tests whose window is within so many values, a bit for each.
+// The tests whose window is within so many values, a bit for each. By the values seen, from none on: marking's own table is by positions.
 const FITTING: [u16; 16] = [
     0b0_0000_0000,
     0b0_0000_0001,
@@ -52,7 +52,7 @@ fn some(up: u16, down: u16, k: u32, n: u16) -> bool
     ensures { result ≡ judge (SomeOf k n) (column up) (column down) }
 {
     let mask = newest(n);
-    (k <= u16::count_ones(up & mask)) | (k <= u16::count_ones(down & mask))
+    (k <= (up & mask).count_ones()) | (k <= (down & mask).count_ones())
 }
 
 // Whether the newest thirteen bits are set by turns, the newest of one history, the one before it of the other, and so on.

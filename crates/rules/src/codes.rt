@@ -149,7 +149,8 @@ fn before(values: &[f64], i: usize) -> f64
     values[i - 1]
 }
 
-// What a family tells of all values, put into their codes where a test asks for it. It goes by sixteens, of which the last may begin
+// What a family tells of all values, put into their codes where a test asks for it: the contract says both, so that six calls make
+// six equations. It goes by sixteens, of which the last may begin
 // before the one ahead of it ends: no iterator of the library does.
 fn put<F: Family>(need: bool, family: F, values: &[f64], c: &mut [u16])
     requires { (16 ≤ length values.now) × (length values.now ≤ length c.old) }
@@ -171,7 +172,7 @@ fn put<F: Family>(need: bool, family: F, values: &[f64], c: &mut [u16])
     }
 }
 
-// The family of two lines.
+// The family of two lines, so that four of them stand in four lines.
 fn outside(high: f64, low: f64, up: u16, down: u16) -> Zone
     ensures { result ≡ record { high = high; low = low; up = up; down = down } }
 {
@@ -192,7 +193,7 @@ fn pad(values: &[f64], v: &mut [f64; 16])
     v[..values.len()].copy_from_slice(values);
 }
 
-// The tests by their bits: of two signals, one and the one eight places above.
+// The tests by their bits: of two signals, one and the one eight places above. Eight numbers, as the definition has them.
 fn pack(
     c0: u16,
     all5: u16,
@@ -212,7 +213,7 @@ fn pack(
 }
 
 // The tests that stand at a position, by the codes that end there: c0 is that of the position, c1 that of the one
-// before it, and so on.
+// before it, and so on. Fifteen parameters and no array: the proof has each code by its name.
 fn standing(
     c0: u16,
     c1: u16,
@@ -386,7 +387,7 @@ impl Marker {
         ensures { out.new ≡ at_front (marks_by unbroken self.lines self.set values.now) out.old }
     {
         let mut c = [0u16; 64];
-        self.block(values, 0, &mut c[0..64], out);
+        self.block(values, 0, &mut c, out);
     }
 
     // The same for many, block by block: a block and its codes stay in the nearest cache. No iterator of the library gives each block
@@ -402,7 +403,7 @@ impl Marker {
             let start = at - p;
             let end = at + (n - at).min(498);
             let mut c = [0u16; 512];
-            self.block(&values[start..end], p, &mut c[0..512], &mut out[at..]);
+            self.block(&values[start..end], p, &mut c, &mut out[at..]);
             at = end;
         }
     }

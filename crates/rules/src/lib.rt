@@ -8,7 +8,7 @@ ghost use Rattle.std.specs.Prelude.{◌≡◌, length};
 ghost use Rattle.rules.specs.Lines.{widths_of, lines_of};
 ghost use Rattle.rules.specs.Tests.{window};
 ghost use Rattle.rules.specs.Finite.{finite_limits};
-ghost use Rattle.rules.specs.Terms.{told};
+ghost use Rattle.rules.specs.Terms.{alone, told};
 ghost use Rattle.rules.specs.Marking.{number, numbered, refusal, answer_of, marks_after};
 
 use codes::Marker;
@@ -48,6 +48,24 @@ pub struct Terms<'a> {
     pub stops: &'a [usize],
     /// Whether the values are moving ranges. Only windows of length one hold a moving range that straddles a stop.
     pub moving: bool,
+}
+
+impl Terms<'_> {
+    /// The terms of values by themselves: with no stops, where it does not matter of which kind the series is.
+    ///
+    /// Refuses nothing: the limits and the mode may be any, and marking judges them.
+    ///
+    /// `Terms::alone(limits, SAME_WIDTHS)` has no stops and `moving: false`.
+    pub fn alone(limits: Limits, width: u64) -> Terms<'static>
+        ensures { told result ≡ alone limits width }
+    {
+        Terms {
+            limits,
+            width,
+            stops: &[],
+            moving: false,
+        }
+    }
 }
 
 // The zone widths: one and two sigma above the centre line, and below it.
@@ -203,14 +221,10 @@ fn ahead(values: &[f64], terms: Terms, set: RuleSet) -> Result<(), Refusal>
 /// Marks every position of a series: test b of the set is set in bit b of `marks[i]` exactly where the window of the
 /// test that ends at position i fits and shows the test's pattern.
 ///
-/// `stops` are the positions before which the belt stood still, of the main series where the values are its moving ranges
-/// (`moving`); a window that reaches over one does not show its pattern, and only windows of length one hold a moving range
-/// that straddles one.
+/// What the terms are says [`Terms`]: a window that reaches over a stop does not show its pattern, and only windows of length one
+/// hold a moving range that straddles one.
 ///
-/// `width` is the width mode: 0 ([`SAME_WIDTHS`]), where one and two sigma below the centre line are as wide as above it, or 1
-/// ([`OWN_WIDTHS`]), where each side has the widths of its own limit.
-///
-/// Gives `Done` and fills the front of `marks`, one entry for each value; entries past them are untouched. Infinite
+/// Gives `Ok` and fills the front of `marks`, one entry for each value; entries past them are untouched. Infinite
 /// zone widths and limits that lie the wrong way round are taken as they are.
 ///
 /// # Refusals
@@ -225,10 +239,10 @@ fn ahead(values: &[f64], terms: Terms, set: RuleSet) -> Result<(), Refusal>
 /// position 4 on (32), eight do at position 7 (160), and nine lie on one side at position 8 (162).
 ///
 /// ```
-/// let limits = Limits { ucl: 28.0, cl: 25.0, lcl: 22.0 };
+/// let terms = Terms::alone(Limits { ucl: 28.0, cl: 25.0, lcl: 22.0 }, SAME_WIDTHS);
 /// let mut marks = [0u16; 9];
-/// rules::mark(&[26.5; 9], &[], false, limits, 0, RuleSet::nelson(), &mut marks);   // 0, 0, 0, 0, 32, 32, 32, 160, 162
-/// rules::mark(&[26.5; 9], &[3], false, limits, 0, RuleSet::nelson(), &mut marks);  // 0, 0, 0, 0, 0, 0, 0, 32, 32
+/// rules::mark(&[26.5; 9], terms, RuleSet::nelson(), &mut marks);                           // 0, 0, 0, 0, 32, 32, 32, 160, 162
+/// rules::mark(&[26.5; 9], Terms { stops: &[3], ..terms }, RuleSet::nelson(), &mut marks);  // 0, 0, 0, 0, 0, 0, 0, 32, 32
 /// ```
 pub fn mark(values: &[f64], terms: Terms, set: RuleSet, marks: &mut [u16]) -> Result<(), Refusal>
     ensures answer { numbered result ≡ answer_of (told terms.entry) set.mask values.now (length marks.old) }

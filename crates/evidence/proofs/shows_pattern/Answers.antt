@@ -5,14 +5,14 @@ use mathlib.Core.List.{List}
 use Prim.Native.Nat.{ℕ, ◌*◌, ◌-◌, ◌%◌, ◌^◌}
 use native.Mathlib.Omega.{arith}
 use lib.Dec.{eqb}
-use lib.ListN.{length, get_or}
+use lib.ListN.{length, get_or, replicate}
 use Rattle.laws.proofs.OneBit.{one_shl}
 use Rattle.sets.specs.Sets.{bit_of}
 use Rattle.sets.proofs.Sets.{bit_of-lt}
 use Rattle.numbers.proofs.Numbers.{done-number, refused-number}
-use Rattle.rules.specs.Marking.{numbered, answer_of}
+use Rattle.rules.specs.Marking.{numbered, answer_of, marks_after}
 use Rattle.rules.proofs.Answers.{tells}
-use Rattle.rules.specs.Terms.{alone}
+use Rattle.rules.specs.Terms.{Terms, alone}
 use Rattle.evidence.proofs.Behind.{part-bounds, refused-alone, marked-alone}
 use Rattle.evidence.proofs.shows_pattern.Goals.{After-bit, After-mark}
 use Rattle.evidence.proofs.shows_pattern.Goals as goal
@@ -25,7 +25,7 @@ one c =
 
 answered : (c : After-mark) → numbered c.mark.result ≡ answer_of (alone c.args.limits c.args.width) ((1 * 2 ^ c.bit.result) % 2 ^ 16) c.args.part.now 15
 answered c =
-    c.mark.ensures.answer
+    c.mark.ensures.answer ∙ ap (λ (terms : Terms). answer_of terms ((1 * 2 ^ c.bit.result) % 2 ^ 16) c.args.part.now 15) c.alone.ensures
 
 pub returns-then-is_err : goal.returns-then-is_err
 returns-then-is_err c =
@@ -41,7 +41,8 @@ bounds-marks-part c =
 
 pub returns : goal.returns
 returns c =
-    ap (λ (m : List ℕ). not (eqb (get_or m (length c.args.part.now - 1) 0) 0)) c.mark.ensures.marks
+    ap (λ (m : List ℕ). not (eqb (get_or m (length c.args.part.now - 1) 0) 0))
+    (c.mark.ensures.marks ∙ ap (λ (terms : Terms). marks_after terms ((1 * 2 ^ c.bit.result) % 2 ^ 16) c.args.part.now (replicate 15 0)) c.alone.ensures)
     ∙ marked-alone c.args.limits c.args.width c.args.t c.args.part.now c.requires _ (one (goal.at.returns c).After-bit) (sym (answered (goal.at.returns c).After-mark) ∙ done-number tells c.mark.result (sym c.is_err.ensures.value ∙ c.if-is_err.false))
 
 pub overflow_cast-set : goal.overflow_cast-set

@@ -40,8 +40,8 @@ pub loop-at-init : goal.loop-at-init
 loop-at-init c =
     tabling-starts _ _ _ c.requires
 
-pub slice_bounds-block-count-in-loop-at-2 : goal.slice_bounds-block-count-in-loop-at-2
-slice_bounds-block-count-in-loop-at-2 c =
+pub slice_bounds-block-count-in-loop-at : goal.slice_bounds-block-count-in-loop-at
+slice_bounds-block-count-in-loop-at c =
     omega (arith, part-start _ _ _ _ _ c.loop-at.invariant 0 (omega arith))
 
 pub slice_bounds-block-start-in-loop-at : goal.slice_bounds-block-start-in-loop-at
