@@ -35,7 +35,7 @@ pub loop-p-preserved : goal.loop-p-preserved
 loop-p-preserved c =
     let a = c.args in
     let p = get_or a.stops.now c.loop-p.p-index 0 in
-      ap (λ (b : Bool). b || wrong_from (main_points a.moving a.points) p (drop (c.loop-p.p-index + 1) a.stops.now)) (sym c.if-p-last.false) ∙ from-here (goal.at.loop-p-preserved c).After-past_the_last
+    ap (λ (b : Bool). b || wrong_from (main_points a.moving a.points) p (drop (c.loop-p.p-index + 1) a.stops.now)) (sym c.if-p-last.false) ∙ from-here (goal.at.loop-p-preserved c).After-past_the_last
 
 pub returns : goal.returns
 returns c =
