@@ -166,6 +166,7 @@ pub fn read_entries(s: &[u8], head: Head, stated: &mut [u16]) -> Result<(), Faul
         at: head.next,
         left: head.marked,
     };
+    // By hand: entries are of any length, and how far reading has come is in `r`.
     while 0 < r.left {
         // Most entries are short: they are read without a call for each number.
         r = read_pairs(s, set, stated, r);

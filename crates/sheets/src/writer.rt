@@ -16,7 +16,7 @@ fn size(x: u16) -> usize
     groups::size(u64::from(x))
 }
 
-// Writes a number at the front of a room that holds it, and gives how many bytes it takes.
+// Writes a number at the front of a room that holds it, and gives how many bytes it takes: there is no refusal to hand on.
 fn put(out: &mut [u8], x: u16) -> usize
     requires { length (groups x) ≤ length out.old }
     ensures count { result ≡ length (groups x) }

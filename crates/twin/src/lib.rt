@@ -46,7 +46,7 @@ impl From<rules::Refusal> for Refusal {
     }
 }
 
-// Why a sheet is not accepted for a series in bytes.
+// Why a sheet is not accepted for a series in bytes. Beside the enum above it and no generic one of both: each says what is refused.
 #[derive(Clone, Copy)]
 enum Fault {
     // The bytes of the series are not eight to a value (2).
@@ -117,7 +117,7 @@ fn put_marks(ms: &[u16], out: &mut [u8])
     }
 }
 
-// The word of a fault of a sheet, which has room for every place and every position that the checker gives (proofs/Packing.antt).
+// The word of a fault of a sheet, its number as C reads it in bits 0 to 7, which has room for every place and every position that the checker gives (proofs/Packing.antt).
 fn pack_fault(fault: sheets::Fault) -> u64
     requires { packed (faulted fault) < 2 ^ 64 }
     ensures { result ≡ packed (faulted fault) }
@@ -160,16 +160,11 @@ fn pack_length(answer: Result<usize, Refusal>) -> u64
 fn unstopped<'a>(limits: Limits) -> Terms<'a>
     ensures { told result ≡ unstopped limits }
 {
-    Terms {
-        limits,
-        width: SAME_WIDTHS,
-        stops: &[],
-        moving: false,
-    }
+    Terms::alone(limits, SAME_WIDTHS)
 }
 
 // The three calls on the bytes of the values, with rooms for what is read of them and for its marks: these hold as many as there
-// are values, unless the values are too many.
+// are values, unless the values are too many. Each begins alike: there is no heap to hand a room on with what was read into it.
 
 fn mark_in<const ROOM: usize>(
     values: &[u8],
