@@ -4,6 +4,7 @@ use mathlib.Core.List.{List}
 use Prim.Native.Nat.{ℕ}
 use Rattle.std.specs.Prelude.{Result, ⊤}
 use Rattle.rules.specs.declared.Refusal.{Refusal}
+use Rattle.rules.specs.Terms.{told}
 use Rattle.rules.proofs.Answers.{numbered-one}
 use Rattle.rules.proofs.mark.Reads as mark
 use Rattle.rules.proofs.mark.Kinds as mark-kinds
@@ -15,6 +16,8 @@ use Rattle.rules.proofs.lines_of.Reads as lines_of
 use Rattle.rules.proofs.lines_of.Kinds as lines-of-kinds
 use Rattle.rules.proofs.window.Reads as window
 use Rattle.rules.proofs.window.Kinds as window-kinds
+use Rattle.rules.proofs.Terms.alone.Reads as alone
+use Rattle.rules.proofs.Terms.alone.Kinds as alone-kinds
 use Rattle.promises.proofs.Coincide.{Coincide}
 
 mark-one : Coincide 3 mark-kinds.ps mark-kinds.r mark.Post {Seen = Result ⊤ Refusal × List ℕ} (λ κs x s. (x, s.1.1.1.0.now))
@@ -32,3 +35,7 @@ lines-of-one κs a x y s t p q = p ∙ sym q
 
 window-one : Coincide 0 window-kinds.ps window-kinds.r window.Post (λ κs x s. x)
 window-one κs a x y s t p q = p ∙ sym q
+
+-- `told`: where a part of no entries lies is not said
+alone-one : Coincide 1 alone-kinds.ps alone-kinds.r alone.Post (λ κs x s. told x)
+alone-one κs a x y s t p q = p ∙ sym q
