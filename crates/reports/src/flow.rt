@@ -10,6 +10,11 @@ use numbers::Numbered;
 use rules::MOST;
 use sets::RuleSet;
 
+// "count 5 if over 4,096 or count times size is over 2,048" (01): no flow file has more values, and no chart of one more points.
+pub const MOST_VALUES: usize = 2048;
+// "over 24,576 bytes 12" (01): no flow file is longer.
+const MOST_BYTES: usize = 24_576;
+
 // Why some bytes are no flow file. The number is that of document 01.
 #[derive(Clone, Copy)]
 pub enum Refusal {
@@ -48,7 +53,7 @@ fn count_wrong(size: u64, count: u64) -> bool
     requires { size ≤ 25 }
     ensures { result ≡ count_wrong size count }
 {
-    (MOST as u64) < count || 2048 < count * size
+    (MOST as u64) < count || (MOST_VALUES as u64) < count * size
 }
 
 // The head of a flow file: the chart, and the place past it.
@@ -109,7 +114,7 @@ pub fn read_flow(s: &[u8], values: &mut [f64]) -> Result<Chart, Refusal>
     ensures said { flow_of s.now ≡ said_flow values.new result }
     ensures legal { LegalFlow result }
 {
-    if 24576 < s.len() {
+    if MOST_BYTES < s.len() {
         return Err(Refusal::Form);
     }
     let head = read_head(s)?;

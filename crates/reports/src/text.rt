@@ -29,13 +29,10 @@ fn glyph(d: u64) -> u8
 fn decimal_len(x: u64) -> usize
     ensures { result ≡ length (decimal x) }
 {
-    let mut rest = x;
-    let mut n: usize = 1;
-    while 10 <= rest {
-        rest = rest / 10;
-        n += 1;
+    if x == 0 {
+        return 1;
     }
-    n
+    x.ilog10() as usize + 1
 }
 
 // One byte, and the place past it. Where the room does not reach so far, that is one past its end.
@@ -47,7 +44,6 @@ fn put_byte(out: &mut [u8], write: bool, at: usize, b: u8) -> usize
     }
     if write {
         out[at] = b;
-        return at + 1;
     }
     at + 1
 }
@@ -74,7 +70,8 @@ fn put_number(out: &mut [u8], write: bool, at: usize, hex: bool, x: u64) -> usiz
     put_digits(out, write, at, 10, decimal_len(x), x)
 }
 
-// A line: its letter and its words, so many of them decimal and the others hex.
+// A line: its letter and its words, so many of them decimal and the others hex. No word has a tag of its own: in every line the
+// decimal ones come first, and one number says how many.
 fn put_line(
     out: &mut [u8],
     write: bool,
