@@ -27,11 +27,11 @@ fn refuse(why: u8, out: &mut [u8]) -> Result<usize, TooShort>
     ensures answer { reported result ≡ room_for (r_line why) (length out.old) }
     ensures room { out.new ≡ at_front_if_room (r_line why) out.old }
 {
-    let n = text::put_refusal(out, false, why);
+    let n = text::put_refusal::<false>(out, why);
     if out.len() < n {
         return Err(TooShort);
     }
-    Ok(text::put_refusal(out, true, why))
+    Ok(text::put_refusal::<true>(out, why))
 }
 
 // The index of the dispersion series' first point.
@@ -58,11 +58,11 @@ fn tell(
         ≡ at_front_if_room (text_by chart e (first_index chart) marks.now others.now) out.old }
 {
     let first = first_index(chart);
-    let n = text::put_chart(out, false, chart, e, first, marks, others);
+    let n = text::put_chart::<false>(out, chart, e, first, marks, others);
     if out.len() < n {
         return Err(TooShort);
     }
-    Ok(text::put_chart(out, true, chart, e, first, marks, others))
+    Ok(text::put_chart::<true>(out, chart, e, first, marks, others))
 }
 
 // Writes the report of a chart and its values.

@@ -7,11 +7,11 @@ use Rattle.reports.proofs.Words.{word-hex, word-decimal}
 use Rattle.reports.proofs.text.put_number.Goals as goal
 
 pub returns-then-hex : goal.returns-then-hex
-returns-then-hex c =
+returns-then-hex g c =
     let args = c.args in
     put_as (word-hex args.hex args.x c.if-hex.true) c.put_digits.ensures
 
 pub returns : goal.returns
-returns c =
+returns g c =
     let args = c.args in
     put_as (ap (λ (n : ℕ). digits 10 n args.x) c.decimal_len.ensures ∙ word-decimal args.hex args.x c.if-hex.false) c.put_digits-2.ensures

@@ -8,5 +8,5 @@ use Rattle.reports.proofs.text.put_refusal.Goals as goal
 
 pub returns : goal.returns
 unfolding words_from
-returns c =
+returns g c =
     put_as (ap (λ (n : ℕ). r_line n) c.from.ensures) c.put_line.ensures
