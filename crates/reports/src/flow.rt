@@ -1,5 +1,6 @@
 // Reading a flow file from bytes of any origin, number by number.
 ghost use Rattle.std.specs.Prelude.{◌≡◌, ◌≤◌, ◌*◌, length};
+ghost use Rattle.reports.specs.declared.flow.TheConstants.{MOST_VALUES};
 ghost use Rattle.reports.specs.declared.flow.Refusal.TheVariants.{Form};
 ghost use Rattle.reports.specs.Flow.{values_from, head_from, flow_of, count_wrong};
 ghost use Rattle.reports.specs.Steps.{number, size, Legal, after_head, LegalHead, said_by, said_flow, LegalFlow};
@@ -110,7 +111,7 @@ fn read_values(s: &[u8], from: usize, chart: Chart, values: &mut [f64]) -> Resul
 // was read so far.
 #[tactic(auto, unfolding(crate::specs::Flow::flow_of))]
 pub fn read_flow(s: &[u8], values: &mut [f64]) -> Result<Chart, Refusal>
-    requires { 2048 ≤ length values.old }
+    requires { MOST_VALUES ≤ length values.old }
     ensures said { flow_of s.now ≡ said_flow values.new result }
     ensures legal { LegalFlow result }
 {
