@@ -7,7 +7,7 @@ ghost use Rattle.laws.specs.Bits.{has_bit};
 ghost use Rattle.rules.specs.Finite.{finite_limits};
 ghost use Rattle.rules.specs.Marking.{most};
 ghost use Rattle.reports.specs.Text.{glyph as glyph_of, decimal, digits, line, l_line, r_line, v_lines, point_marks, listed};
-ghost use Rattle.reports.specs.TextSteps.{Put, word_of, words_from, Tells, text_by};
+ghost use Rattle.reports.specs.TextSteps.{Put, word_of, words_of, Tells, text_by};
 
 use charts::Chart;
 use evaluating::Evaluation;
@@ -60,31 +60,31 @@ fn put_digits<const WRITE: bool>(out: &mut [u8], at: usize, base: u64, k: usize,
     put_byte::<WRITE>(out, last, glyph(x % base))
 }
 
-// A number as a word: all its hex digits, or its decimal ones.
-fn put_number<const WRITE: bool>(out: &mut [u8], at: usize, hex: bool, x: u64) -> usize
-    ensures { Put WRITE (word_of hex x) at out.old result out.new }
-{
-    if hex {
-        return put_digits::<WRITE>(out, at, 16, 16, x);
-    }
-    put_digits::<WRITE>(out, at, 10, decimal_len(x), x)
+// A number as a word of a line: its decimal digits, or all its hex ones.
+#[derive(Clone, Copy)]
+enum Word {
+    Decimal(u64),
+    Hex(u64),
 }
 
-// A line: its letter and its words, so many of them decimal and the others hex. No word has a tag of its own: in every line the
-// decimal ones come first, and one number says how many.
-fn put_line<const WRITE: bool>(
-    out: &mut [u8],
-    at: usize,
-    letter: u8,
-    decimals: usize,
-    xs: &[u64],
-) -> usize
-    ensures { Put WRITE (line letter (words_from decimals 0 xs.now)) at out.old result out.new }
+// A word.
+fn put_word<const WRITE: bool>(out: &mut [u8], at: usize, word: Word) -> usize
+    ensures { Put WRITE (word_of word) at out.old result out.new }
+{
+    match word {
+        Word::Decimal(x) => put_digits::<WRITE>(out, at, 10, decimal_len(x), x),
+        Word::Hex(x) => put_digits::<WRITE>(out, at, 16, 16, x),
+    }
+}
+
+// A line: its letter and its words.
+fn put_line<const WRITE: bool>(out: &mut [u8], at: usize, letter: u8, words: &[Word]) -> usize
+    ensures { Put WRITE (line letter (words_of words.now)) at out.old result out.new }
 {
     let mut to = put_byte::<WRITE>(out, at, letter);
-    for (i, x) in xs.iter().enumerate() {
-        let word = put_byte::<WRITE>(out, to, b' ');
-        to = put_number::<WRITE>(out, word, decimals <= i, *x);
+    for word in words {
+        let next = put_byte::<WRITE>(out, to, b' ');
+        to = put_word::<WRITE>(out, next, *word);
     }
     put_byte::<WRITE>(out, to, b'\n')
 }
@@ -94,13 +94,13 @@ fn put_limits<const WRITE: bool>(out: &mut [u8], at: usize, series: u64, limits:
     requires { finite_limits limits ≡ true }
     ensures { Put WRITE (l_line series limits) at out.old result out.new }
 {
-    let numbers = [
-        series,
-        f64::to_bits(limits.ucl),
-        f64::to_bits(limits.cl),
-        f64::to_bits(limits.lcl),
+    let words = [
+        Word::Decimal(series),
+        Word::Hex(limits.ucl.to_bits()),
+        Word::Hex(limits.cl.to_bits()),
+        Word::Hex(limits.lcl.to_bits()),
     ];
-    put_line::<WRITE>(out, at, b'L', 1, &numbers)
+    put_line::<WRITE>(out, at, b'L', &words)
 }
 
 // Whether bit k is set.
@@ -118,7 +118,16 @@ fn put_point<const WRITE: bool>(out: &mut [u8], at: usize, series: u64, index: u
     let mut to = at;
     for t in 0..9 {
         if has_bit(m, t) {
-            to = put_line::<WRITE>(out, to, b'V', 3, &[series, index, t]);
+            to = put_line::<WRITE>(
+                out,
+                to,
+                b'V',
+                &[
+                    Word::Decimal(series),
+                    Word::Decimal(index),
+                    Word::Decimal(t),
+                ],
+            );
         }
     }
     to
@@ -156,19 +165,23 @@ pub fn put_chart<const WRITE: bool>(
     requires { Tells e first marks.now others.now }
     ensures { Put WRITE (text_by chart e first marks.now others.now) 0 out.old result out.new }
 {
-    let head = [chart.kind, chart.size as u64, u64::from(chart.set.mask)];
-    let lines = [e.marks as u64];
-    let one = put_line::<WRITE>(out, 0, b'C', 3, &head);
+    let head = [
+        Word::Decimal(chart.kind),
+        Word::Decimal(chart.size as u64),
+        Word::Decimal(u64::from(chart.set.mask)),
+    ];
+    let lines = [Word::Decimal(e.marks as u64)];
+    let one = put_line::<WRITE>(out, 0, b'C', &head);
     let two = put_limits::<WRITE>(out, one, 0, e.main);
     let three = put_limits::<WRITE>(out, two, 1, e.dispersion);
     let four = put_marks::<WRITE>(out, three, 0, 0, marks);
     let five = put_marks::<WRITE>(out, four, 1, first, others);
-    put_line::<WRITE>(out, five, b'E', 1, &lines)
+    put_line::<WRITE>(out, five, b'E', &lines)
 }
 
 /// The line of a refusal, from the front of the room on.
 pub fn put_refusal<const WRITE: bool>(out: &mut [u8], why: u8) -> usize
     ensures { Put WRITE (r_line why) 0 out.old result out.new }
 {
-    put_line::<WRITE>(out, 0, b'R', 1, &[u64::from(why)])
+    put_line::<WRITE>(out, 0, b'R', &[Word::Decimal(u64::from(why))])
 }
