@@ -48,8 +48,9 @@ pub fn no_room(
         | (dispersion_marks < points.dispersion)
 }
 
-// 14, 15 where positions are wrong, 21 where the width mode is, 8, 6 where a lent slice is too short, and 3. The three answers come
-// as the definition `ahead` takes them, for one order of refusals; the sigma figures, which are lent nothing, have `false` for each.
+// 14, 15 where positions are wrong, 21 where the width mode is, 8, 6 where a lent slice is too short, and 3. The three answers
+// come as the definition `ahead` takes them, for one order of refusals; the sigma figures, which are lent no positions and no
+// slices, have `false` for each.
 #[tactic(auto, unfolding(laws::specs::Refusals::first_of))]
 pub fn check(
     c: Chart,

@@ -1,7 +1,7 @@
-// The lines of a report, byte by byte from a place of the room on. Each function either writes its bytes or, without WRITE, only goes
-// past them, so that a room too short for a text is known before anything is written. They print by hand: there is no heap to format
-// into, and each promises its exact bytes. The room and the place stay two parameters: what a struct leaves behind a reference of its
-// own a contract can name only by its place in nested pairs.
+// The lines of a report, byte by byte from a place of the room on. Each function either writes its bytes or, without WRITE, only
+// goes past them, so that a room too short for a text is known before anything is written. They print by hand: there is no heap
+// to format into, and each promises its exact bytes. The room and the place stay two parameters: what a struct leaves behind a
+// reference of its own a contract can name only by its place in nested pairs.
 ghost use Rattle.std.specs.Prelude.{◌≡◌, ◌∷◌, [], true, ◌≤◌, ◌<◌, length};
 ghost use Rattle.laws.specs.Bits.{has_bit};
 ghost use Rattle.rules.specs.Finite.{finite_limits};
@@ -67,7 +67,7 @@ enum Word {
     Hex(u64),
 }
 
-// A word.
+// One word.
 fn put_word<const WRITE: bool>(out: &mut [u8], at: usize, word: Word) -> usize
     ensures { Put WRITE (word_of word) at out.old result out.new }
 {
