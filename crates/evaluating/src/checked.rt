@@ -12,12 +12,11 @@ ghost use Rattle.evaluating.specs.Evaluating.{evaluated, positions_wrong, no_roo
 ghost use Rattle.evaluating.specs.Steps.{ahead};
 
 use super::right::Held;
-use super::series::Series;
 use super::{Evaluation, marks, series};
 use charts::{Chart, INDIVIDUALS, Refusal};
 use rules::Terms;
 
-// Evaluates a chart that passed the tests ahead of the arithmetic.
+// Evaluates a chart that passed the tests ahead of the arithmetic. What it is lent and asked is as in the public `evaluate`.
 pub fn evaluate(
     c: Chart,
     values: &[f64],
@@ -42,8 +41,7 @@ pub fn evaluate(
     ensures dispersion_marks { dispersion_marks.new
         ≡ lent_after (evaluated result).number 0 (series_marks (in_mode (interrupted (asked c values.now) positions.now) width) 1) dispersion_marks.old }
 {
-    let n = series::points_in(c, Series::Main);
-    let k = series::points_in(c, Series::Dispersion);
+    let points = series::lengths_in(c);
     let held = Held { chart: c, values };
     match held.measure(main, dispersion) {
         Err(why) => {
@@ -62,8 +60,13 @@ pub fn evaluate(
                 moving: c.kind == INDIVIDUALS,
                 ..of_main
             };
-            let marks = marks::mark(&main[..n], of_main, c.set, main_marks);
-            let others = marks::mark(&dispersion[..k], of_dispersion, c.set, dispersion_marks);
+            let marks = marks::mark(&main[..points.main], of_main, c.set, main_marks);
+            let others = marks::mark(
+                &dispersion[..points.dispersion],
+                of_dispersion,
+                c.set,
+                dispersion_marks,
+            );
             Ok(Evaluation {
                 main: w.main,
                 dispersion: w.dispersion,

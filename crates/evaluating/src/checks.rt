@@ -6,7 +6,7 @@ ghost use Rattle.evaluating.specs.Evaluating.{positions_wrong, too_few, no_room}
 ghost use Rattle.evaluating.specs.Steps.{ahead, tested};
 
 use super::kinds::{Kind, kind_of};
-use super::series::{Series, points_in};
+use super::series::lengths_in;
 use charts::{Chart, Refusal};
 
 // Whether the record counts more stops than there are positions, or these are no stops of the chart.
@@ -14,7 +14,7 @@ use charts::{Chart, Refusal};
 pub fn positions_wrong(c: Chart, positions: &[usize]) -> bool
     ensures { result ≡ positions_wrong c positions.now }
 {
-    match positions.get(0..c.stops) {
+    match positions.get(..c.stops) {
         None => true,
         Some(stops) => stops::wrong(stops, false, c.count),
     }
@@ -41,12 +41,16 @@ pub fn no_room(
 ) -> bool
     ensures { result ≡ no_room c main dispersion main_marks dispersion_marks }
 {
-    let n = points_in(c, Series::Main);
-    let k = points_in(c, Series::Dispersion);
-    (main < n) | (main_marks < n) | (dispersion < k) | (dispersion_marks < k)
+    let points = lengths_in(c);
+    (main < points.main)
+        | (main_marks < points.main)
+        | (dispersion < points.dispersion)
+        | (dispersion_marks < points.dispersion)
 }
 
-// 14, 15 where positions are wrong, 21 where the width mode is, 8, 6 where a lent slice is too short, and 3.
+// 14, 15 where positions are wrong, 21 where the width mode is, 8, 6 where a lent slice is too short, and 3. The three answers
+// come as the definition `ahead` takes them, for one order of refusals; the sigma figures, which are lent no positions and no
+// slices, have `false` for each.
 #[tactic(auto, unfolding(laws::specs::Refusals::first_of))]
 pub fn check(
     c: Chart,
@@ -73,7 +77,7 @@ pub fn check(
         return Err(Refusal::TooShort);
     }
     let end = c.count * c.size;
-    if !floats::all_finite(&values[0..end]) {
+    if !floats::all_finite(&values[..end]) {
         return Err(Refusal::NotFinite);
     }
     Ok(())

@@ -24,7 +24,6 @@ ghost use Rattle.evaluating.specs.Sigma.{figured, estimated, sigma_hat_of, sigma
 use charts::{Chart, Refusal};
 use right::Right;
 use rules::{Limits, OWN_WIDTHS};
-use series::Series;
 
 /// How many points each series of a chart has.
 #[derive(Clone, Copy, Debug, PartialEq, Eq)]
@@ -45,6 +44,7 @@ pub struct ChartLimits {
 }
 
 /// What evaluating finds.
+// It has both limits as fields of its own, as [`ChartLimits`] has: the fields are public.
 #[derive(Clone, Copy, Debug, PartialEq)]
 pub struct Evaluation {
     /// The limits of the main series.
@@ -100,10 +100,7 @@ pub fn points(chart: Chart) -> Result<Lengths, Refusal>
     if chart.own_wrong() {
         return Err(Refusal::Record);
     }
-    Ok(Lengths {
-        main: series::points_in(chart, Series::Main),
-        dispersion: series::points_in(chart, Series::Dispersion),
-    })
+    Ok(series::lengths_in(chart))
 }
 
 /// Evaluates a chart: writes the two series and the marks of their points to the front of the lent slices, main

@@ -9,7 +9,7 @@ use super::ChartLimits;
 use super::factors::Factor;
 use super::kinds::{Kind, kind_of};
 use super::right::{Held, Right};
-use super::series::{Series, points_in};
+use super::series::{Series, lengths_in};
 use charts::Refusal;
 use rules::Limits;
 
@@ -81,11 +81,13 @@ impl Held<'_> {
         ensures main { main.new ≡ at_front (series_of (asks self.entry) 0) main.old }
         ensures dispersion { dispersion.new ≡ at_front (series_of (asks self.entry) 1) dispersion.old }
     {
-        let n = points_in(self.chart, Series::Main);
-        let k = points_in(self.chart, Series::Dispersion);
+        let points = lengths_in(self.chart);
         self.fill(Series::Main, main);
         self.fill(Series::Dispersion, dispersion);
         let right = Right { chart: self.chart };
-        right.limits_from(arith::mean_of(&main[..n]), arith::mean_of(&dispersion[..k]))
+        right.limits_from(
+            arith::mean_of(&main[..points.main]),
+            arith::mean_of(&dispersion[..points.dispersion]),
+        )
     }
 }

@@ -14,7 +14,7 @@ fn count(marks: &[u16]) -> usize
     requires { length marks.now ≤ most }
     ensures { result ≡ ones_in marks.now }
 {
-    marks.iter().map(|m| u16::count_ones(*m) as usize).sum()
+    marks.iter().map(|m| m.count_ones() as usize).sum()
 }
 
 // Marks the points of a series that marking does not refuse, and gives the number of marks.

@@ -5,6 +5,7 @@ ghost use Rattle.evaluating.specs.Asked.{sample_at};
 ghost use Rattle.evaluating.specs.Series.{point_at, points_in, series_of};
 ghost use Rattle.evaluating.specs.Steps.{place_of, asks};
 
+use super::Lengths;
 use super::kinds::{Kind, kind_of};
 use super::right::Held;
 use charts::Chart;
@@ -24,6 +25,17 @@ pub fn points_in(c: Chart, series: Series) -> usize
     match (series, kind_of(c)) {
         (Series::Dispersion, Kind::Individuals) => c.count.saturating_sub(1),
         _ => c.count,
+    }
+}
+
+// How many points each series has.
+pub fn lengths_in(c: Chart) -> Lengths
+    ensures main { result.main ≡ points_in c 0 }
+    ensures dispersion { result.dispersion ≡ points_in c 1 }
+{
+    Lengths {
+        main: points_in(c, Series::Main),
+        dispersion: points_in(c, Series::Dispersion),
     }
 }
 

@@ -82,7 +82,7 @@ impl Right {
     pub fn df_of(self) -> f64
         ensures { result ≡ df_of self.chart }
     {
-        let n = std::num::nearest_u64_to_f64(points_in(self.chart, Series::Dispersion) as u64);
+        let n = std::num::nearest_usize_to_f64(points_in(self.chart, Series::Dispersion));
         match kind_of(self.chart) {
             Kind::Individuals => 0.62 * n,
             Kind::Ranges => equivalent_df(range_cv2(Factor::D4.of_size(self.chart.size), n)),

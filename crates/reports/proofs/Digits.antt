@@ -69,6 +69,17 @@ below_power (suc k) x h = by (ltb x 10) refl (below_power k (x / 10))
     by true e ih = omega (arith, length-one x (ltb-true x 10 e))
     by false e ih = omega (arith, length_more x (ltb-false x 10 e), ih (omega (arith, pow-suc 10 (suc k))))
 
+some-power : (k : ℕ) → 0 < 10 ^ k
+some-power zero = omega arith
+some-power (suc k) = omega (arith, pow-suc 10 k, some-power k)
+
+-- and one that is not below 10 ^ k has more than k
+pub above_power : (k x : ℕ) → 10 ^ k ≤ x → k < length (decimal x)
+above_power zero x h = decimal-some x
+above_power (suc k) x h =
+    let ten : 10 ≤ x = omega (arith, pow-suc 10 k, some-power k) in
+    omega (arith, length_more x ten, above_power k (x / 10) (omega (arith, pow-suc 10 k)))
+
 -- ---- digits in a base
 
 pub digits-none : (base k x : ℕ) → k ≡ 0 → digits base k x ≡ []

@@ -11,8 +11,10 @@ use Rattle.laws.proofs.Bools.{both}
 use Rattle.rules.specs.declared.Limits.{Limits}
 use Rattle.floats.specs.Finite.{finite}
 use Rattle.rules.specs.Finite.{finite_limits}
+use Rattle.reports.specs.declared.text.Word.{Word}
+use Rattle.reports.specs.declared.text.Word.TheVariants.{Decimal, Hex}
 use Rattle.reports.specs.Text.{decimal, digits, spaced, line, l_line}
-use Rattle.reports.specs.TextSteps.{words_from}
+use Rattle.reports.specs.TextSteps.{words_of}
 use Rattle.reports.proofs.Digits.{length_digits}
 
 -- ---- no limit is a NaN
@@ -33,12 +35,12 @@ limits-no-nan l h =
 
 -- ---- the line
 
--- the numbers that it has
-abbrev pub numbers_of : ℕ → Limits → List ℕ
-numbers_of series l = series ∷ to_bits binary64 l.ucl ∷ to_bits binary64 l.cl ∷ to_bits binary64 l.lcl ∷ []
+-- the words that it has
+abbrev pub words_in : ℕ → Limits → List Word
+words_in series l = Decimal series ∷ Hex (to_bits binary64 l.ucl) ∷ Hex (to_bits binary64 l.cl) ∷ Hex (to_bits binary64 l.lcl) ∷ []
 
-pub limits-line : (series : ℕ) (l : Limits) → line 76 (words_from 1 0 (numbers_of series l)) ≡ l_line series l
-unfolding words_from
+pub limits-line : (series : ℕ) (l : Limits) → line 76 (words_of (words_in series l)) ≡ l_line series l
+unfolding words_of
 limits-line series l = refl
 
 hex-word : (x : ℕ) (after : List ℕ) → length (32 ∷ (digits 16 16 x ++ after)) ≡ 17 + length after

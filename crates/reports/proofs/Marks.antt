@@ -14,7 +14,8 @@ use Rattle.sets.proofs.Sets.{bit-of-test}
 use Rattle.sets.proofs.Members.{none-tests}
 use Rattle.evaluating.specs.Evaluating.{number_of}
 use Rattle.reports.specs.Text.{decimal, line, Mark, mark, v_line, v_lines, marks_in, point_marks, listed, both_marks}
-use Rattle.reports.specs.TextSteps.{words_from}
+use Rattle.reports.specs.declared.text.Word.TheVariants.{Decimal}
+use Rattle.reports.specs.TextSteps.{words_of}
 use Rattle.reports.proofs.Words.{next-is}
 
 -- ---- the tests by their bits
@@ -58,13 +59,13 @@ module _ (series index m : ℕ) where
 -- ---- their lines
 
 -- the line of a mark has the bit of its test
-line_of : (series index t : ℕ) → t < 9 → v_line (mark series index (test_of t)) ≡ line 86 (words_from 3 0 (series ∷ index ∷ t ∷ []))
-unfolding words_from
+line_of : (series index t : ℕ) → t < 9 → v_line (mark series index (test_of t)) ≡ line 86 (words_of (Decimal series ∷ Decimal index ∷ Decimal t ∷ []))
+unfolding words_of
 line_of series index t h = ap (λ (k : ℕ). line 86 (decimal series ∷ decimal index ∷ decimal k ∷ [])) (bit-of-test t h)
 
 module _ (series index m t : ℕ) where
   pub lines-on : t < 9 → has_bit m t ≡ true
-      → v_lines (marks_from series index m t) ≡ line 86 (words_from 3 0 (series ∷ index ∷ t ∷ [])) ++ v_lines (marks_from series index m (t + 1))
+      → v_lines (marks_from series index m t) ≡ line 86 (words_of (Decimal series ∷ Decimal index ∷ Decimal t ∷ [])) ++ v_lines (marks_from series index m (t + 1))
   unfolding v_lines
   lines-on h e =
       ap v_lines (test_on series index m t h e)

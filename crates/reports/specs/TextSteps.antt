@@ -1,9 +1,11 @@
 -- What the parts of the writer of lines find. Nothing here has to be believed: the proofs tie it to Text.antt. Definitions only.
-use Rattle.std.specs.Prelude.{Bool, true, cond, ◌≡◌, List, [], ◌∷◌, ℕ, suc, ◌≤◌, leb, ltb, length, set}
+use Rattle.std.specs.Prelude.{Bool, true, cond, ◌≡◌, List, [], ◌∷◌, ℕ, suc, ◌≤◌, ltb, length, set}
 use Rattle.charts.specs.declared.Chart.{Chart}
 use Rattle.evaluating.specs.declared.Evaluation.{Evaluation}
 use Rattle.rules.specs.Finite.{finite_limits}
 use Rattle.rules.specs.Marking.{most}
+use Rattle.reports.specs.declared.text.Word.{Word}
+use Rattle.reports.specs.declared.text.Word.TheVariants.{Decimal, Hex}
 use Rattle.reports.specs.Text.{decimal, digits, both_marks, chart_text}
 
 -- ---- bytes from a place of a room on
@@ -23,14 +25,15 @@ pub record Put (write : Bool) (bytes : List ℕ) (at : ℕ) (old : List ℕ) (ne
 
 -- ---- words
 
--- a number as a word: all its hex digits, or its decimal ones
-abbrev pub word_of : Bool → ℕ → List ℕ
-word_of hex x = cond hex (digits 16 16 x) (decimal x)
+-- a number as a word: its decimal digits, or all its hex ones
+abbrev pub word_of : Word → List ℕ
+word_of (Decimal x) = decimal x
+word_of (Hex x) = digits 16 16 x
 
--- the words of a line from word i on: those before `decimals` are decimal
-unfoldable pub words_from : ℕ → ℕ → List ℕ → List (List ℕ)
-words_from decimals i [] = []
-words_from decimals i (x ∷ xs) = word_of (leb decimals i) x ∷ words_from decimals (suc i) xs
+-- the words of a line
+unfoldable pub words_of : List Word → List (List ℕ)
+words_of [] = []
+words_of (w ∷ ws) = word_of w ∷ words_of ws
 
 -- ---- a chart
 

@@ -1,5 +1,6 @@
 // Reading a flow file from bytes of any origin, number by number.
 ghost use Rattle.std.specs.Prelude.{◌≡◌, ◌≤◌, ◌*◌, length};
+ghost use Rattle.reports.specs.declared.flow.TheConstants.{MOST_VALUES};
 ghost use Rattle.reports.specs.declared.flow.Refusal.TheVariants.{Form};
 ghost use Rattle.reports.specs.Flow.{values_from, head_from, flow_of, count_wrong};
 ghost use Rattle.reports.specs.Steps.{number, size, Legal, after_head, LegalHead, said_by, said_flow, LegalFlow};
@@ -9,6 +10,11 @@ use groups::{Fault, Read, read_number};
 use numbers::Numbered;
 use rules::MOST;
 use sets::RuleSet;
+
+// "count 5 if over 4,096 or count times size is over 2,048" (01): no flow file has more values, and no chart of one more points.
+pub const MOST_VALUES: usize = 2048;
+// "over 24,576 bytes 12" (01): no flow file is longer.
+const MOST_BYTES: usize = 24_576;
 
 // Why some bytes are no flow file. The number is that of document 01.
 #[derive(Clone, Copy)]
@@ -48,7 +54,7 @@ fn count_wrong(size: u64, count: u64) -> bool
     requires { size ≤ 25 }
     ensures { result ≡ count_wrong size count }
 {
-    (MOST as u64) < count || 2048 < count * size
+    (MOST as u64) < count || (MOST_VALUES as u64) < count * size
 }
 
 // The head of a flow file: the chart, and the place past it.
@@ -105,11 +111,11 @@ fn read_values(s: &[u8], from: usize, chart: Chart, values: &mut [f64]) -> Resul
 // was read so far.
 #[tactic(auto, unfolding(crate::specs::Flow::flow_of))]
 pub fn read_flow(s: &[u8], values: &mut [f64]) -> Result<Chart, Refusal>
-    requires { 2048 ≤ length values.old }
+    requires { MOST_VALUES ≤ length values.old }
     ensures said { flow_of s.now ≡ said_flow values.new result }
     ensures legal { LegalFlow result }
 {
-    if 24576 < s.len() {
+    if MOST_BYTES < s.len() {
         return Err(Refusal::Form);
     }
     let head = read_head(s)?;

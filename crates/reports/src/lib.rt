@@ -14,6 +14,7 @@ ghost use Rattle.reports.specs.TextSteps.{Tells, text_by};
 
 use charts::{Chart, INDIVIDUALS};
 use evaluating::Evaluation;
+use flow::MOST_VALUES;
 use groups::TooShort;
 use numbers::Numbered;
 use rules::SAME_WIDTHS;
@@ -26,11 +27,11 @@ fn refuse(why: u8, out: &mut [u8]) -> Result<usize, TooShort>
     ensures answer { reported result ≡ room_for (r_line why) (length out.old) }
     ensures room { out.new ≡ at_front_if_room (r_line why) out.old }
 {
-    let n = text::put_refusal(out, false, why);
+    let n = text::put_refusal::<false>(out, why);
     if out.len() < n {
         return Err(TooShort);
     }
-    Ok(text::put_refusal(out, true, why))
+    Ok(text::put_refusal::<true>(out, why))
 }
 
 // The index of the dispersion series' first point.
@@ -57,11 +58,11 @@ fn tell(
         ≡ at_front_if_room (text_by chart e (first_index chart) marks.now others.now) out.old }
 {
     let first = first_index(chart);
-    let n = text::put_chart(out, false, chart, e, first, marks, others);
+    let n = text::put_chart::<false>(out, chart, e, first, marks, others);
     if out.len() < n {
         return Err(TooShort);
     }
-    Ok(text::put_chart(out, true, chart, e, first, marks, others))
+    Ok(text::put_chart::<true>(out, chart, e, first, marks, others))
 }
 
 // Writes the report of a chart and its values.
@@ -74,10 +75,10 @@ fn report_chart(chart: Chart, values: &[f64], out: &mut [u8]) -> Result<usize, T
     if !floats::all_finite(values) {
         return refuse(charts::Refusal::NotFinite.number(), out);
     }
-    let mut main = [0.0f64; 2048];
-    let mut dispersion = [0.0f64; 2048];
-    let mut marks = [0u16; 2048];
-    let mut others = [0u16; 2048];
+    let mut main = [0.0f64; MOST_VALUES];
+    let mut dispersion = [0.0f64; MOST_VALUES];
+    let mut marks = [0u16; MOST_VALUES];
+    let mut others = [0u16; MOST_VALUES];
     match evaluating::evaluate(
         chart,
         values,
@@ -115,7 +116,7 @@ pub fn report(input: &[u8], out: &mut [u8]) -> Result<usize, TooShort>
     ensures answer { reported result ≡ room_for (text_of input.now) (length out.old) }
     ensures room { out.new ≡ at_front_if_room (text_of input.now) out.old }
 {
-    let mut values = [0.0f64; 2048];
+    let mut values = [0.0f64; MOST_VALUES];
     match flow::read_flow(input, &mut values) {
         Err(why) => refuse(why.number(), out),
         Ok(chart) => {

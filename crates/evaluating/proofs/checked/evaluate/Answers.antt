@@ -65,19 +65,19 @@ slice_bounds-of_main-end c =
 
 pub slice_bounds-mark-end : goal.slice_bounds-mark-end
 slice_bounds-mark-end c =
-    omega (arith, (room (goal.at.slice_bounds-mark-end c).Start).main-room, c.points_in-n.ensures, c.measure.auto)
+    omega (arith, (room (goal.at.slice_bounds-mark-end c).Start).main-room, c.lengths_in-points.ensures.main, c.measure.auto)
 
 pub slice_bounds-mark-end-in-Ok : goal.slice_bounds-mark-end-in-Ok
 slice_bounds-mark-end-in-Ok c =
-    omega (arith, length-take c.points_in-n.result c.measure.new.main, (room (goal.at.slice_bounds-mark-end-in-Ok c).Start).main-room, c.points_in-n.ensures, c.measure.auto)
+    omega (arith, length-take c.lengths_in-points.result.main c.measure.new.main, (room (goal.at.slice_bounds-mark-end-in-Ok c).Start).main-room, c.lengths_in-points.ensures.main, c.measure.auto)
 
 pub slice_bounds-mark-end-in-Ok-2 : goal.slice_bounds-mark-end-in-Ok-2
 slice_bounds-mark-end-in-Ok-2 c =
-    omega (arith, (room (goal.at.slice_bounds-mark-end-in-Ok-2 c).Start).dispersion-room, c.points_in-k.ensures, c.measure.auto)
+    omega (arith, (room (goal.at.slice_bounds-mark-end-in-Ok-2 c).Start).dispersion-room, c.lengths_in-points.ensures.dispersion, c.measure.auto)
 
 pub slice_bounds-mark-end-in-Ok-3 : goal.slice_bounds-mark-end-in-Ok-3
 slice_bounds-mark-end-in-Ok-3 c =
-    omega (arith, length-take c.points_in-k.result c.measure.new.dispersion, (room (goal.at.slice_bounds-mark-end-in-Ok-3 c).Start).dispersion-room, c.points_in-k.ensures, c.measure.auto)
+    omega (arith, length-take c.lengths_in-points.result.dispersion c.measure.new.dispersion, (room (goal.at.slice_bounds-mark-end-in-Ok-3 c).Start).dispersion-room, c.lengths_in-points.ensures.dispersion, c.measure.auto)
 
 -- what was measured: the limits, and the points at the front of both slices
 
@@ -99,14 +99,14 @@ dispersion-limits : (c : In-Ok) → c.in-Ok.w.dispersion ≡ limits_of (whole c)
 dispersion-limits c =
     ap (λ (l : ChartLimits). l.dispersion) (found c).1
 
-main-points : (c : In-Ok) → take c.points_in-n.result c.measure.new.main ≡ series_of (whole c) 0
+main-points : (c : In-Ok) → take c.lengths_in-points.result.main c.measure.new.main ≡ series_of (whole c) 0
 main-points c =
-    front-series (plain c) 0 _ c.args.main.now _ c.points_in-n.ensures c.in-Ok.ensures.main
+    front-series (plain c) 0 _ c.args.main.now _ c.lengths_in-points.ensures.main c.in-Ok.ensures.main
     ∙ sym (same-series (plain c) c.args.positions.now c.args.width 0)
 
-dispersion-points : (c : In-Ok) → take c.points_in-k.result c.measure.new.dispersion ≡ series_of (whole c) 1
+dispersion-points : (c : In-Ok) → take c.lengths_in-points.result.dispersion c.measure.new.dispersion ≡ series_of (whole c) 1
 dispersion-points c =
-    front-series (plain c) 1 _ c.args.dispersion.now _ c.points_in-k.ensures c.in-Ok.ensures.dispersion
+    front-series (plain c) 1 _ c.args.dispersion.now _ c.lengths_in-points.ensures.dispersion c.in-Ok.ensures.dispersion
     ∙ sym (same-series (plain c) c.args.positions.now c.args.width 1)
 
 pub mark-marks-requires : goal.mark-marks-requires

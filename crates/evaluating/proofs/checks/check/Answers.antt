@@ -1,5 +1,5 @@
 -- `checks::check` meets its contract: the stored values lie within those that are lent. Assumes nothing.
-use Rattle.std.proofs.Common.{length, arith}
+use Rattle.std.proofs.Common.{◌*◌, length, length-take, arith}
 use Rattle.laws.proofs.Bools.{told}
 use Rattle.charts.proofs.Held.{Held, held}
 use Rattle.evaluating.proofs.checks.check.Goals.{Else-record_wrong}
@@ -15,4 +15,4 @@ overflow_mul-end c =
 
 pub slice_bounds-all_finite-end : goal.slice_bounds-all_finite-end
 slice_bounds-all_finite-end c =
-    (held-so (goal.at.slice_bounds-all_finite-end c).Else-record_wrong).within
+    omega (arith, length-take (c.args.c.count * c.args.c.size) c.args.values.now, (held-so (goal.at.slice_bounds-all_finite-end c).Else-record_wrong).within)

@@ -8,12 +8,12 @@ use Rattle.reports.proofs.Putting.{put-none, put_as, put_both}
 use Rattle.reports.proofs.text.+put_digits.Goals as goal
 
 pub returns-then-k-eq0 : goal.returns-then-k-eq0
-returns-then-k-eq0 t c =
+returns-then-k-eq0 g t c =
     let args = c.args in
     put-none (digits-none args.base args.k args.x c.if-k-eq0.true)
 
 pub returns : goal.returns
-returns t c =
+returns g t c =
     let args = c.args in
     let front = digits args.base (args.k - 1) (args.x / args.base) in
     put_as

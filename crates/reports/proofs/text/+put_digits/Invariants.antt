@@ -2,4 +2,4 @@
 use Rattle.reports.proofs.text.+put_digits.Given as goal
 
 abbrev pub decreases-put_digits : goal.decreases-put_digits
-decreases-put_digits l = l.k
+decreases-put_digits g l = l.k

@@ -1,24 +1,15 @@
--- `text::decimal_len` meets its contract: one is counted for the digits that are left. Assumes nothing.
+-- `text::decimal_len` meets its contract: a number from a power of ten on and below the next has one digit more than the power.
+-- Assumes nothing.
 use native.Mathlib.Omega.{arith}
-use Rattle.reports.proofs.Digits.{length-one, length_more, decimal-some, below_power}
+use native.Mathlib.Nat.{pow-suc}
+use Rattle.reports.proofs.Digits.{length-one, below_power, above_power}
 use Rattle.reports.proofs.text.decimal_len.Goals as goal
 
-pub loop-rest-init : goal.loop-rest-init
-loop-rest-init c =
-    omega arith
-
-pub overflow_add-n : goal.overflow_add-n
-overflow_add-n c =
-    omega (arith, below_power 19 c.args.x (omega arith), decimal-some c.loop-rest.rest)
-
-pub loop-rest-smaller : goal.loop-rest-smaller
-loop-rest-smaller c =
-    omega arith
-
-pub loop-rest-preserved : goal.loop-rest-preserved
-loop-rest-preserved c =
-    omega (arith, length_more c.loop-rest.rest c.loop-rest-test.true)
+pub returns-then-x-eq0 : goal.returns-then-x-eq0
+returns-then-x-eq0 c =
+    omega (arith, length-one c.args.x (omega arith))
 
 pub returns : goal.returns
 returns c =
-    omega (arith, length-one c.loop-rest.rest c.loop-rest-test.false)
+    let k = c.ilog10.result in
+    omega (arith, above_power k c.args.x c.ilog10.ensures.power_le, below_power k c.args.x (omega (arith, pow-suc 10 k, c.ilog10.ensures.next_power_gt)))

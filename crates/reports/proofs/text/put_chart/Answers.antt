@@ -2,17 +2,18 @@
 use mathlib.Core.Path.{ap}
 use mathlib.Core.List.{[], ◌∷◌}
 use Prim.Native.Nat.{ℕ}
+use Rattle.reports.specs.declared.text.Word.TheVariants.{Decimal}
 use Rattle.reports.specs.Text.{line}
-use Rattle.reports.specs.TextSteps.{Put, words_from}
+use Rattle.reports.specs.TextSteps.{Put, words_of}
 use Rattle.reports.proofs.Charts.{chart-lines}
 use Rattle.reports.proofs.Putting.{put_as, put_both}
 use Rattle.reports.proofs.text.put_chart.Goals as goal
 
 pub returns : goal.returns
-returns c =
+returns g c =
     let args = c.args in
-    let head = ap (λ (n : ℕ). line 67 (words_from 3 0 (args.chart.kind ∷ args.chart.size ∷ n ∷ []))) c.from.ensures in
-    let number : Put args.write (line 69 (words_from 1 0 (args.e.marks ∷ []))) _ _ _ _ = c.put_line.ensures in
+    let head = ap (λ (n : ℕ). line 67 (words_of (Decimal args.chart.kind ∷ Decimal args.chart.size ∷ Decimal n ∷ []))) c.from.ensures in
+    let number : Put _ (line 69 (words_of (Decimal args.e.marks ∷ []))) _ _ _ _ = c.put_line.ensures in
     put_as
     (chart-lines args.chart.kind args.chart.size args.chart.set.mask args.e.main args.e.dispersion args.first
     args.marks.now args.others.now args.e.marks c.requires.number)

@@ -4,18 +4,18 @@ use Rattle.reports.proofs.Putting.{put_both, coming-starts, coming-same, coming-
 use Rattle.reports.proofs.Words.{words-next, words_last}
 use Rattle.reports.proofs.text.put_line.Goals as goal
 
-pub loop-i-init : goal.loop-i-init
-loop-i-init c =
+pub loop-word-init : goal.loop-word-init
+loop-word-init g c =
     coming-starts refl
 
-pub loop-i-preserved : goal.loop-i-preserved
-loop-i-preserved c =
+pub loop-word-preserved : goal.loop-word-preserved
+loop-word-preserved g c =
     let args = c.args in
-    coming-on (coming-on c.loop-i.invariant (words-next args.decimals args.xs.now c.loop-i.i c.loop-i-test.true) c.put_byte-word.ensures)
-    refl c.put_number-to.ensures
+    coming-on (coming-on c.loop-word.invariant (words-next args.words.now c.loop-word.word-index _ c.loop-word-test.true) c.put_byte-next.ensures)
+    refl c.put_word-to.ensures
 
 pub returns : goal.returns
-returns c =
+returns g c =
     let args = c.args in
-    let last = coming-same c.loop-i.invariant (words_last args.decimals args.xs.now c.loop-i.i c.loop-i-test.false) in
+    let last = coming-same c.loop-word.invariant (words_last args.words.now c.loop-word.word-index c.loop-word-test.false) in
     put_both c.put_byte-to.ensures (coming-last last c.put_byte.ensures)

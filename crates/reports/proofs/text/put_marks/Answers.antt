@@ -7,12 +7,12 @@ use Rattle.reports.proofs.text.put_marks.Goals.{then-m-ne0, else-m-ne0}
 use Rattle.reports.proofs.text.put_marks.Goals as goal
 
 pub loop-i-init : goal.loop-i-init
-loop-i-init c =
+loop-i-init g c =
     let args = c.args in
     coming-starts (sym (ap v_lines (listed-all args.series args.first args.marks.now)))
 
 pub loop-i-preserved : goal.loop-i-preserved
-loop-i-preserved c =
+loop-i-preserved g c =
     let args = c.args in
     elim c.if-m-ne0.branch [
       | then-m-ne0 w ↦
@@ -24,6 +24,6 @@ loop-i-preserved c =
     ]
 
 pub returns : goal.returns
-returns c =
+returns g c =
     let args = c.args in
     coming-ends c.loop-i.invariant (lines_end args.series args.first args.marks.now c.loop-i.i c.loop-i-test.false)

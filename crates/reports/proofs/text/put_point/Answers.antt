@@ -6,11 +6,11 @@ use Rattle.reports.proofs.text.put_point.Goals.{then-has_bit, else-has_bit}
 use Rattle.reports.proofs.text.put_point.Goals as goal
 
 pub loop-t-init : goal.loop-t-init
-loop-t-init c =
+loop-t-init g c =
     coming-starts refl
 
 pub loop-t-preserved : goal.loop-t-preserved
-loop-t-preserved c =
+loop-t-preserved g c =
     let args = c.args in
     elim c.if-has_bit.branch [
       | then-has_bit w ↦
@@ -22,6 +22,6 @@ loop-t-preserved c =
     ]
 
 pub returns : goal.returns
-returns c =
+returns g c =
     let args = c.args in
     coming-ends c.loop-t.invariant (lines-done args.series args.index args.m c.loop-t.t c.loop-t-test.false)

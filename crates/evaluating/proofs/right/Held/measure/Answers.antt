@@ -14,6 +14,6 @@ invariant_of-right c =
 pub returns-clause-limits : goal.returns-clause-limits
 returns-clause-limits c =
     let a = asked c.args.self.chart c.args.self.values.now in
-    let main = front-series a 0 _ c.args.main.now _ c.points_in-n.ensures c.fill.ensures in
-    let dispersion = front-series a 1 _ c.args.dispersion.now _ c.points_in-k.ensures c.fill-2.ensures in
+    let main = front-series a 0 _ c.args.main.now _ c.lengths_in-points.ensures.main c.fill.ensures in
+    let dispersion = front-series a 1 _ c.args.dispersion.now _ c.lengths_in-points.ensures.dispersion c.fill-2.ensures in
     c.limits_from.ensures ∙ ap₂ (λ (m d : Float). limits_from c.args.self.chart m d) c.mean_of.ensures c.mean_of-2.ensures ∙ from-series a main dispersion

@@ -15,4 +15,4 @@ of_size-requires-in-Deviations c =
 pub returns-in-Individuals : goal.returns-in-Individuals
 unfolding df_of of_bits round
 returns-in-Individuals c =
-    rw (c.nearest_u64_to_f64-n.ensures, c.points_in.ensures) (of_kind c.args.self.chart.kind _ _ _ c.in-Individuals.ensures)
+    rw (c.nearest_usize_to_f64-n.ensures, c.points_in.ensures) (of_kind c.args.self.chart.kind _ _ _ c.in-Individuals.ensures)
