@@ -6,7 +6,7 @@ use crate::outcome::{Outcome, tell};
 use crate::{Fault, closing, opening};
 use std::io;
 
-/// What a case comes to, and the place just past it.
+/// What a case comes to, and the place just past it. It is no `Read`: the outcome is worked out, and stands nowhere in the list.
 #[derive(Clone, Copy, Debug, PartialEq, Eq)]
 pub struct Case {
     pub outcome: Outcome,
