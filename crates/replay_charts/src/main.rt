@@ -180,6 +180,7 @@ fn refused_alike(ours: Answers) -> bool
     let Err(why) = ours.evaluated else {
         return true;
     };
+    // by their numbers: "refused by the same number" (oracle/FORMAT.md)
     let number = why.number();
     let alike = (ours.sigma_hat.number() == number) & (ours.sigma_hat_df.number() == number);
     (answer::apart(why) | alike) & (ours.none_stands == matches!(why, Refusal::TooFew))

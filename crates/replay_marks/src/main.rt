@@ -57,7 +57,8 @@ fn written_by(number: u8, n: usize) -> usize
     if number == 0 { n } else { 0 }
 }
 
-// Holds all that marking n values answers and leaves to the stored answer.
+// Holds all that marking n values answers and leaves to the stored answer. It is told 01's number and not the refusal: a stored answer
+// begins with the number, which alone is held to it.
 fn hold(stored: &[u8], stopped: bool, number: u8, n: usize, marks: &[u16]) -> Outcome
     requires { n ≤ length marks.now }
     ensures { OnlyIf (Held stored.now stopped number n marks.now) result }
