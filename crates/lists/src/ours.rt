@@ -66,8 +66,8 @@ impl Listed for bool {
     }
 }
 
-/// Numbers that were written one after another, in at most N bytes. No ArrayVec: `groups::write_number` writes into a slice that is
-/// lent to it, and an ArrayVec lends none past its length.
+/// Numbers that were written one after another, in at most N bytes. No ArrayVec: `groups::write_number` writes into a slice that
+/// is lent to it, and an ArrayVec lends none past its length.
 #[derive(Debug, Drop)]
 pub struct Bytes<const N: usize> {
     room: [u8; N],
@@ -98,6 +98,7 @@ impl<const N: usize> Bytes<N> {
     pub fn put(&mut self, x: u64) -> Result<(), TooShort>
         ensures { OnOk result (self.new ≡ self.old ++ groups x) }
     {
+        // the whole first: a part of an array whose length is a parameter could not be proved lent
         let room = &mut self.room[..];
         self.len += groups::write_number(&mut room[self.len..], x)?;
         Ok(())

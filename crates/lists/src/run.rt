@@ -77,8 +77,8 @@ fn go<P: Print, F: FnMut(usize) -> Result<Case, Fault>>(
 /// Replays every case of a list, where `replay_case` replays the one that begins at a place: writes a line for each that differs,
 /// and last how many there are and how many of them differ, or why the bytes are no list. Fails only where that cannot be written.
 ///
-/// The room for the list and the reading of it stay with each program: what replays a report case requires that the list fits in the
-/// room, and a closure that is handed a list here may require nothing of it.
+/// The room for the list and the reading of it stay with each program: what replays a report case requires that the list fits in
+/// the room, and a closure that is handed a list here may require nothing of it.
 pub fn replay<P: Print, F: FnMut(usize) -> Result<Case, Fault>>(
     rt: &P,
     list: &[u8],

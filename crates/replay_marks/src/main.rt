@@ -40,8 +40,8 @@ struct Ahead<'a> {
     stops: Option<&'a [usize]>,
 }
 
-// How the series of a case is marked. One with a list of stops (`stopped`), which may be empty as that of any other, has 01's number
-// in front of the marks.
+// How the series of a case is marked. One with a list of stops (`stopped`), which may be empty as that of any other, has 01's
+// number in front of the marks.
 #[derive(Clone, Copy)]
 struct Asked<'a> {
     stopped: bool,
@@ -57,8 +57,8 @@ fn written_by(number: u8, n: usize) -> usize
     if number == 0 { n } else { 0 }
 }
 
-// Holds all that marking n values answers and leaves to the stored answer. It is told 01's number and not the refusal: a stored answer
-// begins with the number, which alone is held to it.
+// Holds all that marking n values answers and leaves to the stored answer. It is told 01's number and not the refusal: a stored
+// answer begins with the number, which alone is held to it.
 fn hold(stored: &[u8], stopped: bool, number: u8, n: usize, marks: &[u16]) -> Outcome
     requires { n ≤ length marks.now }
     ensures { OnlyIf (Held stored.now stopped number n marks.now) result }

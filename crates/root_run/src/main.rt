@@ -55,8 +55,8 @@ fn compare(file: &[u8]) -> Tally
     ensures differ { result.differ ≡ differing file.now result.pairs }
     ensures cut { result.cut ≡ length file.now % 16 }
 {
-    // no `chunks_exact(PAIR)`: its chunks are slices, whose two numbers come in an Option again, and here one Option says both whether
-    // there is a pair and what it is
+    // no `chunks_exact(PAIR)`: its chunks are slices, whose two numbers come in an Option again, and here one Option says both
+    // whether there is a pair and what it is
     let mut rest = file;
     let mut pairs: u64 = 0;
     let mut differ: u64 = 0;
