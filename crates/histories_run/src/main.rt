@@ -75,7 +75,7 @@ impl Kind {
 }
 
 // What is counted: the marks of each test, the values taken and refused, and all marks in one number.
-#[derive(Drop)]
+#[derive(Default, Drop)]
 struct Tally {
     marked: [u64; 9],
     taken: u64,
@@ -84,15 +84,6 @@ struct Tally {
 }
 
 impl Tally {
-    fn start() -> Tally {
-        Tally {
-            marked: [0; 9],
-            taken: 0,
-            refused: 0,
-            all: 0,
-        }
-    }
-
     // Counts the marks at a value by their tests, and takes them in, so that every number taken in tells.
     fn count_marks(&mut self, marks: u16) {
         for (bit, n) in self.marked.iter_mut().enumerate() {
@@ -145,7 +136,7 @@ fn run(tally: &mut Tally) {
 }
 
 fn main(rt: HostRuntime) -> io::Result<()> {
-    let mut tally = Tally::start();
+    let mut tally = Tally::default();
     run(&mut tally);
     print!(rt;
         "{} values taken, {} refused; marked by each test",

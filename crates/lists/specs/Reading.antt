@@ -9,8 +9,10 @@ use Rattle.groups.specs.declared.Read.{Read}
 use Rattle.groups.specs.declared.Fault as groups
 use Rattle.groups.specs.Groups.{number_at}
 use Rattle.lists.specs.declared.Item.{Item}
+use Rattle.lists.specs.declared.Form.{Form}
+use Rattle.lists.specs.declared.Form.TheVariants.{Plain, Stopped, Moded}
 use Rattle.lists.specs.declared.Item.TheVariants.{Format, Cases, Tag, Answer, End}
-use Rattle.lists.specs.declared.Why.TheVariants.{Cut, Form, Range, Unlisted, NotFinite, LeftOver, TooLong}
+use Rattle.lists.specs.declared.Why.TheVariants.{Cut, Form as Formed, Range, Unlisted, NotFinite, LeftOver, TooLong}
 use Rattle.lists.specs.declared.Fault.{Fault}
 use Rattle.lists.specs.declared.Stretch.{Stretch}
 use Rattle.lists.specs.Found.{read, wrong, onward}
@@ -23,7 +25,7 @@ cut list at = list_all (leb 128) (drop at list)
 
 -- why none stands there
 abbrev pub no_number : List ℕ → ℕ → Item → Fault
-no_number list at item = record { at = at; item = item; why = cond (cut list at) Cut Form }
+no_number list at item = record { at = at; item = item; why = cond (cut list at) Cut Formed }
 
 abbrev pub found_in : List ℕ → Item → Result (Read ℕ) groups.Fault → Result (Read ℕ) Fault
 found_in list item (Ok number) = Ok number
@@ -37,18 +39,21 @@ unfoldable pub small_from : List ℕ → Item → ℕ → ℕ → ℕ → Result
 small_from list item low high at =
     onward (number_from list item at) (λ v next. cond (leb low v && leb v high) (read v next) (wrong at item (Range v low high)))
 
--- what was read, where lists have it there
-abbrev pub listed_at : ℕ → Item → Bool → ℕ → ℕ → Result (Read ℕ) Fault
-listed_at at item have v next = cond have (read v next) (wrong at item (Unlisted v))
+-- no list has the number there
+abbrev pub not_listed : ℕ → Item → ℕ → Fault
+not_listed at item v = record { at = at; item = item; why = Unlisted v }
 
--- "its tag": that of a case, or of such a case "with stops"
-unfoldable pub tag_from : List ℕ → ℕ → ℕ → ℕ → ℕ → Result (Read ℕ) Fault
+-- "its tag": that of a case, of such a case "with stops", or of one "in a width mode"
+unfoldable pub tag_from : List ℕ → ℕ → ℕ → ℕ → ℕ → Result (Read Form) Fault
 tag_from list plain stopped moded at =
-    onward (small_from list Tag plain moded at) (λ v next. listed_at at Tag (eqb v plain || eqb v stopped || eqb v moded) v next)
+    onward (small_from list Tag plain moded at) (λ v next.
+    cond (eqb v plain) (read Plain next)
+    (cond (eqb v stopped) (read Stopped next) (cond (eqb v moded) (read Moded next) (Err (not_listed at Tag v)))))
 
 -- "01's number": 0, or 7 to high
 unfoldable pub answer_from : List ℕ → ℕ → ℕ → Result (Read ℕ) Fault
-answer_from list high at = onward (small_from list Answer 0 high at) (λ v next. listed_at at Answer (eqb v 0 || leb 7 v) v next)
+answer_from list high at = onward (small_from list Answer 0 high at) (λ v next.
+    cond (eqb v 0 || leb 7 v) (read v next) (Err (not_listed at Answer v)))
 
 -- ---- an f64, which "stands as its bits, read as one number"; "No NaN and no infinity stands in a list"
 

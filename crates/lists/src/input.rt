@@ -8,7 +8,8 @@ use std::io::Read;
 pub fn read_input<I: Input>(rt: &I, room: &mut [u8]) -> io::Result<usize>
     ensures { IfOk result (λ n. n ≤ length room.new) }
 {
-    // a loop over `read`: the library's `read_to_end` reads into a Vec, and there is no heap
+    // a loop over `read`: the library's `read_to_end` reads into a Vec, and what replays a list has fixed memory, as the library
+    // under test has
     let mut reader = rt.reader();
     let mut done = 0;
     while done < room.len() {

@@ -1,5 +1,7 @@
 // Lists of cases with their right answers, in the form of oracle/FORMAT.md: reading what they hold, writing what is ours as
-// they have it, holding the one to the other case by case, and saying why bytes are no list.
+// they have it, holding the one to the other case by case, and saying why bytes are no list. What reads takes the list and a
+// place, and gives the next one: the definitions (specs/Reading.antt) speak of these two, so each promise is one equation, and a
+// reader that moves would be no plainer.
 #![tactic(auto)]
 
 mod input;
@@ -10,12 +12,12 @@ mod run;
 mod words;
 
 ghost use Rattle.std.specs.Prelude.{◌≡◌, ◌≤◌, length, IfOk};
-ghost use Rattle.lists.specs.Reading.{cut, no_number, number_from, small_from, listed_at, tag_from, answer_from, float_from};
+ghost use Rattle.lists.specs.Reading.{cut, no_number, number_from, small_from, not_listed, tag_from, answer_from, float_from};
 ghost use Rattle.lists.specs.Reading.{bytes_from, numbers_from, opening_of, closing_from};
 
 pub use groups::Read;
 pub use input::read_input;
-pub use ours::{Bytes, Listed, all_are, bits};
+pub use ours::{Bytes, Listed, all_are, bits, hold};
 pub use outcome::{Difference, Outcome, Parting, compare, stored};
 pub use row::{Entry, read_row};
 pub use run::{Case, replay};
@@ -23,8 +25,8 @@ pub use run::{Case, replay};
 /// Bytes of the longest list.
 pub const MOST_BYTES: usize = 400_000;
 
-/// The largest rule set.
-pub const ALL_TESTS: u16 = 511;
+/// Room for a list, and one byte more, so that a longer one is seen.
+pub const ROOM: usize = MOST_BYTES + 1;
 
 /// What a number of a list stands for.
 #[derive(Clone, Copy, Debug, PartialEq, Eq)]
@@ -78,7 +80,17 @@ pub struct Fault {
     pub why: Why,
 }
 
-/// Where bytes that stand as they are begin, and the place just past them.
+/// What a tag says of its case.
+#[derive(Clone, Copy, Debug, PartialEq, Eq)]
+pub enum Form {
+    Plain,
+    /// It has stops.
+    Stopped,
+    /// It has stops and a width mode.
+    Moded,
+}
+
+/// Where bytes that stand as they are begin, and the place just past them. No Range: that is an iterator, and cannot be copied.
 #[derive(Clone, Copy, Debug, PartialEq, Eq)]
 pub struct Stretch {
     pub from: usize,
@@ -140,20 +152,17 @@ pub fn read_small(
     })
 }
 
-// What was read at the place `at`, where lists have it there.
-fn listed(at: usize, item: Item, number: Read<u16>, have: bool) -> Result<Read<u16>, Fault>
-    ensures { result ≡ listed_at at item have number.value number.next }
+// No list has the number there.
+fn unlisted(at: usize, item: Item, value: u16) -> Fault
+    ensures { result ≡ not_listed at item value }
 {
-    if have {
-        return Ok(number);
-    }
-    Err(Fault {
+    Fault {
         at,
         item,
         why: Why::Unlisted {
-            value: u64::from(number.value),
+            value: u64::from(value),
         },
-    })
+    }
 }
 
 /// Reads the tag at the place `at`: that of a case, of such a case with stops, or of one in a width mode.
@@ -164,13 +173,23 @@ pub fn read_tag(
     plain: u16,
     stopped: u16,
     moded: u16,
-) -> Result<Read<u16>, Fault>
+) -> Result<Read<Form>, Fault>
     ensures { result ≡ tag_from list.now plain stopped moded at }
 {
     let tag = read_small(list, at, Item::Tag, plain, moded)?;
-    let value = tag.value;
-    let known = (value == plain) | (value == stopped) | (value == moded);
-    listed(at, Item::Tag, tag, known)
+    let value = if tag.value == plain {
+        Form::Plain
+    } else if tag.value == stopped {
+        Form::Stopped
+    } else if tag.value == moded {
+        Form::Moded
+    } else {
+        return Err(unlisted(at, Item::Tag, tag.value));
+    };
+    Ok(Read {
+        value,
+        next: tag.next,
+    })
 }
 
 /// Reads the answer at the place `at`: 01's number, which has to be 0, or 7 to `high`.
@@ -179,8 +198,10 @@ pub fn read_answer(list: &[u8], at: usize, high: u16) -> Result<Read<u16>, Fault
     ensures { result ≡ answer_from list.now high at }
 {
     let answer = read_small(list, at, Item::Answer, 0, high)?;
-    let value = answer.value;
-    listed(at, Item::Answer, answer, (value == 0) | (7 <= value))
+    if (answer.value == 0) | (7 <= answer.value) {
+        return Ok(answer);
+    }
+    Err(unlisted(at, Item::Answer, answer.value))
 }
 
 /// Reads the f64 at the place `at`, which has to be finite.

@@ -1,10 +1,12 @@
 // What is ours, as a list has it: numbers in groups of seven, one after another.
-ghost use Rattle.std.specs.Prelude.{◌≡◌, ℕ, ◌≤◌, ◌++◌, List, [], cond, map, take, OnOk};
+ghost use Rattle.std.specs.Prelude.{◌≡◌, ℕ, ◌≤◌, ◌++◌, List, [], cond, map, take, OnOk, IsOk};
 ghost use Rattle.std.specs.Float.{binary64};
 ghost use Rattle.std.specs.Float.Ieee.{to_bits};
 ghost use Rattle.groups.specs.Groups.{groups};
 ghost use Rattle.lists.specs.Ours.{in_groups, all_are};
+ghost use Rattle.lists.specs.Outcomes.{OnlyIf};
 
+use crate::outcome::{Difference, Outcome, compare};
 use groups::TooShort;
 use std::marker::Model;
 
@@ -64,7 +66,8 @@ impl Listed for bool {
     }
 }
 
-/// Numbers that were written one after another, in at most N bytes.
+/// Numbers that were written one after another, in at most N bytes. No ArrayVec: `groups::write_number` writes into a slice that
+/// is lent to it, and an ArrayVec lends none past its length.
 #[derive(Debug, Drop)]
 pub struct Bytes<const N: usize> {
     room: [u8; N],
@@ -95,6 +98,7 @@ impl<const N: usize> Bytes<N> {
     pub fn put(&mut self, x: u64) -> Result<(), TooShort>
         ensures { OnOk result (self.new ≡ self.old ++ groups x) }
     {
+        // the whole first: a part of an array whose length is a parameter could not be proved lent
         let room = &mut self.room[..];
         self.len += groups::write_number(&mut room[self.len..], x)?;
         Ok(())
@@ -115,6 +119,17 @@ impl<const N: usize> Bytes<N> {
         ensures { result.now ≡ self.now }
     {
         &self.room[..self.len]
+    }
+}
+
+/// Holds what was written, where all of it was (`put`), to what is stored.
+pub fn hold<const N: usize>(ours: &Bytes<N>, put: Result<(), TooShort>, stored: &[u8]) -> Outcome
+    ensures whole { OnlyIf (IsOk put) result }
+    ensures same { OnlyIf (ours.now ≡ stored.now) result }
+{
+    match put {
+        Ok(()) => compare(ours.as_slice(), stored),
+        Err(_) => Err(Difference::Length(N + 1)),
     }
 }
 

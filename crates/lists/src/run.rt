@@ -6,7 +6,7 @@ use crate::outcome::{Outcome, tell};
 use crate::{Fault, closing, opening};
 use std::io;
 
-/// What a case comes to, and the place just past it.
+/// What a case comes to, and the place just past it. It is no `Read`: the outcome is worked out, and stands nowhere in the list.
 #[derive(Clone, Copy, Debug, PartialEq, Eq)]
 pub struct Case {
     pub outcome: Outcome,
@@ -76,6 +76,9 @@ fn go<P: Print, F: FnMut(usize) -> Result<Case, Fault>>(
 
 /// Replays every case of a list, where `replay_case` replays the one that begins at a place: writes a line for each that differs,
 /// and last how many there are and how many of them differ, or why the bytes are no list. Fails only where that cannot be written.
+///
+/// The room for the list and the reading of it stay with each program: what replays a report case requires that the list fits in
+/// the room, and a closure that is handed a list here may require nothing of it.
 pub fn replay<P: Print, F: FnMut(usize) -> Result<Case, Fault>>(
     rt: &P,
     list: &[u8],

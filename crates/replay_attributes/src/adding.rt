@@ -14,12 +14,14 @@ const LONGEST: usize = 100_000;
 // Writes what making and adding answered, and then the record's count and both slices.
 fn put<S: Stored>(
     ours: &mut Bytes<LONGEST>,
-    told: &[u8],
+    made: u8,
+    added: &[u8],
     chart: Chart<S>,
     counts: &[u64],
     sizes: &[S],
 ) -> Result<(), TooShort> {
-    for number in told {
+    ours.put(u64::from(made))?;
+    for number in added {
         ours.put(u64::from(*number))?;
     }
     ours.put(chart.count as u64)?;
@@ -36,22 +38,22 @@ pub fn replay<S: Stored>(list: &[u8], at: usize, sizes: &mut [S]) -> Result<Case
     let many = lists::read_small(list, read.next, Item::Samples, 0, LONGEST_SLICE as u16)?;
     let n = usize::from(many.value);
     let mut counts = [1u64; LONGEST_SLICE];
-    let counts = &mut counts[..head.counts.min(LONGEST_SLICE)];
-    let sizes = &mut sizes[..head.sizes.min(LONGEST_SLICE)];
+    let counts = &mut counts[..head.counts];
+    let sizes = &mut sizes[..head.sizes];
     let made = head.made();
     let mut chart = head.record(made);
-    let mut told = [0u8; LONGEST_SLICE + 1];
-    told[0] = made.number();
+    let mut told = [0u8; LONGEST_SLICE];
+    let told = &mut told[..n];
     let mut next = many.next;
-    for i in 0..n {
+    for number in told.iter_mut() {
         let damaged = lists::read_number(list, next, Item::Value)?;
         let size = read_size(list, damaged.next)?;
         next = size.next;
         let added = chart.add(counts, sizes, damaged.value, size.value);
-        told[i + 1] = added.number();
+        *number = added.number();
         chart = added.unwrap_or(chart);
     }
     let mut ours = Bytes::new();
-    let put = put(&mut ours, &told[..n + 1], chart, counts, sizes);
+    let put = put(&mut ours, made.number(), told, chart, counts, sizes);
     answer::settle(list, next, 2 + n + counts.len() + sizes.len(), &ours, put)
 }

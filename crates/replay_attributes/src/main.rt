@@ -34,8 +34,7 @@ fn replay_case(list: &[u8], at: usize) -> Result<Case, Fault> {
 }
 
 fn main(rt: HostRuntime) -> io::Result<()> {
-    // one byte more than a list may have, so that a longer one is seen
-    let mut bytes = [0u8; 400_001];
+    let mut bytes = [0u8; lists::ROOM];
     let n = lists::read_input(&rt, &mut bytes)?;
     let list = &bytes[..n];
     lists::replay(&rt, list, |at| replay_case(list, at))

@@ -1,12 +1,12 @@
 // What stands before the answer of an attribute case (oracle/FORMAT.md).
+ghost use Rattle.std.specs.Prelude.{◌≤◌, IfOk};
+
 use attributes::{Centre, Chart, Refusal, Size};
 use lists::{Fault, Item, Listed, Read};
 use std::marker::PhantomData;
 
 /// The longest slice that a case has.
 pub const LONGEST_SLICE: usize = 4100;
-
-const MOST_ROOM: u16 = 4100;
 
 /// The smallest f64, whose bits are 1: what an entry of a slice that is lent for writing is beforehand.
 pub const LEAST: f64 = 5.0e-324;
@@ -77,32 +77,33 @@ fn read_centre(list: &[u8], at: usize) -> Result<Read<Centre>, Fault> {
     })
 }
 
-/// Reads the lengths of N slices.
-pub fn read_lengths<const N: usize>(list: &[u8], at: usize) -> Result<Read<[usize; N]>, Fault> {
-    let mut value = [0; N];
-    let mut next = at;
-    for length in value.iter_mut() {
-        let read = lists::read_small(list, next, Item::Room, 0, MOST_ROOM)?;
-        *length = usize::from(read.value);
-        next = read.next;
-    }
-    Ok(Read { value, next })
+/// Reads the length of a slice.
+pub fn read_length(list: &[u8], at: usize) -> Result<Read<usize>, Fault>
+    ensures { IfOk result (λ length. length.value ≤ 4100) }
+{
+    let length = lists::read_small(list, at, Item::Room, 0, LONGEST_SLICE as u16)?;
+    Ok(Read {
+        value: usize::from(length.value),
+        next: length.next,
+    })
 }
 
 /// Reads a head at the place `at`.
-pub fn read_head(list: &[u8], at: usize) -> Result<Read<Head>, Fault> {
+pub fn read_head(list: &[u8], at: usize) -> Result<Read<Head>, Fault>
+    ensures { IfOk result (λ head. (head.value.counts ≤ 4100) × (head.value.sizes ≤ 4100)) }
+{
     let centre = read_centre(list, at)?;
     let count = lists::read_number(list, centre.next, Item::Samples)?;
-    let lengths = read_lengths::<2>(list, count.next)?;
-    let [counts, sizes] = lengths.value;
+    let counts = read_length(list, count.next)?;
+    let sizes = read_length(list, counts.next)?;
     Ok(Read {
         value: Head {
             centre: centre.value,
             count: count.value as usize,
-            counts,
-            sizes,
+            counts: counts.value,
+            sizes: sizes.value,
         },
-        next: lengths.next,
+        next: sizes.next,
     })
 }
 

@@ -9,7 +9,7 @@ use Rattle.charts.specs.declared.Refusal.{Refusal}
 use Rattle.charts.specs.Records.{number}
 use Rattle.evaluating.specs.declared.Evaluation.{Evaluation}
 use Rattle.replay_charts.specs.declared.answers.Answers.{Answers}
-use Rattle.replay_charts.specs.declared.answers.Series.{Series as Lent}
+use Rattle.replay_charts.specs.declared.answers.Lent.{Lent}
 
 -- the series of a chart, and the marks of their points
 pub record Series : Type 0 where

@@ -2,28 +2,29 @@
 ghost use Rattle.std.specs.Prelude.{◌≤◌, ◌≡◌, ◌++◌, OnOk};
 ghost use Rattle.lists.specs.Ours.{in_groups};
 ghost use Rattle.lists.specs.Outcomes.{OnlyIf};
+ghost use Rattle.charts.specs.Records.{number};
 ghost use Rattle.replay_charts.specs.Answer.{figure_of, figures_of, series_of, counts_of, found_of, apart, answer_of, rows};
 
-use crate::answers::{Answers, Series};
+use crate::answers::{Answers, Lent};
 use charts::Refusal;
 use evaluating::Evaluation;
 use groups::TooShort;
-use lists::{Bytes, Difference, Fault, Item, Outcome};
+use lists::{Bytes, Fault, Item, Outcome};
 use numbers::Numbered;
 
 // The bytes of the longest answer: 8,192 points of ten bytes with marks of two, and some numbers more.
 const LONGEST: usize = 100_000;
 
-// 01's numbers for bad stops and for a bad width mode.
+// 01's numbers for bad stops and for a bad width mode, as a stored answer has them.
 const BAD_STOPS: u16 = 15;
 
 const BAD_WIDTH: u16 = 21;
 
-/// Whether evaluating alone refuses by this number: the figures take neither stops nor a width mode, and their answers follow it.
-pub fn apart(number: u16) -> bool
-    ensures { result ≡ apart number }
+/// Whether evaluating alone refuses so: the figures take neither stops nor a width mode, and their answers follow it.
+pub fn apart(why: Refusal) -> bool
+    ensures { result ≡ apart (number why) }
 {
-    (number == BAD_STOPS) | (number == BAD_WIDTH)
+    matches!(why, Refusal::Stops | Refusal::WidthMode)
 }
 
 // A figure: its answer, and the figure where there is one.
@@ -48,7 +49,7 @@ fn put_figures(ours: &mut Bytes<LONGEST>, answers: Answers) -> Result<(), TooSho
 }
 
 // The series and their marks.
-fn put_series(ours: &mut Bytes<LONGEST>, series: Series) -> Result<(), TooShort>
+fn put_series(ours: &mut Bytes<LONGEST>, series: Lent) -> Result<(), TooShort>
     ensures { OnOk result (ours.new ≡ ours.old ++ in_groups (series_of (rows series.entry))) }
 {
     ours.put_row(series.main)?;
@@ -71,7 +72,7 @@ fn put_found(
     ours: &mut Bytes<LONGEST>,
     found: Evaluation,
     answers: Answers,
-    series: Series,
+    series: Lent,
 ) -> Result<(), TooShort>
     ensures { OnOk result (ours.new ≡ ours.old ++ in_groups (found_of found answers (rows series.entry))) }
 {
@@ -84,28 +85,24 @@ fn put_found(
 }
 
 // Writes our answer.
-fn put(ours: &mut Bytes<LONGEST>, answers: Answers, series: Series) -> Result<(), TooShort>
+fn put(ours: &mut Bytes<LONGEST>, answers: Answers, series: Lent) -> Result<(), TooShort>
     ensures { OnOk result (ours.new ≡ ours.old ++ in_groups (answer_of answers (rows series.entry))) }
 {
-    let number = answers.evaluated.number();
-    let figures_follow = apart(u16::from(number));
-    ours.put(u64::from(number))?;
+    ours.put(u64::from(answers.evaluated.number()))?;
     match answers.evaluated {
         Ok(found) => put_found(ours, found, answers, series),
-        Err(_) if figures_follow => put_figures(ours, answers),
+        Err(why) if apart(why) => put_figures(ours, answers),
         Err(_) => Ok(()),
     }
 }
 
 /// Holds our answer to the stored one.
-pub fn hold(stored: &[u8], answers: Answers, series: Series) -> Outcome
+pub fn hold(stored: &[u8], answers: Answers, series: Lent) -> Outcome
     ensures { OnlyIf (in_groups (answer_of answers (rows series.entry)) ≡ stored.now) result }
 {
     let mut ours = Bytes::new();
-    match put(&mut ours, answers, series) {
-        Ok(()) => lists::compare(ours.as_slice(), stored),
-        Err(_) => Err(Difference::Length(LONGEST + 1)),
-    }
+    let put = put(&mut ours, answers, series);
+    lists::hold(&ours, put, stored)
 }
 
 fn pass_figure(list: &[u8], at: usize) -> Result<usize, Fault> {
@@ -126,7 +123,7 @@ pub fn pass(list: &[u8], at: usize, points: usize) -> Result<usize, Fault>
     requires { points ≤ 8192 }
 {
     let answer = lists::read_answer(list, at, BAD_WIDTH)?;
-    if apart(answer.value) {
+    if (answer.value == BAD_STOPS) | (answer.value == BAD_WIDTH) {
         return pass_figures(list, answer.next);
     }
     if answer.value != 0 {

@@ -11,9 +11,9 @@ pub struct Answers {
     pub sigma_hat_df: Result<f64, Refusal>,
 }
 
-/// The series of a chart, and the marks of their points.
+/// The slices that a chart lends: its series, and the marks of their points.
 #[derive(Clone, Copy)]
-pub struct Series<'a> {
+pub struct Lent<'a> {
     pub main: &'a [f64],
     pub dispersion: &'a [f64],
     pub main_marks: &'a [u16],

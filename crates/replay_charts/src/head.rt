@@ -2,12 +2,14 @@
 ghost use Rattle.std.specs.Prelude.{◌≡◌, ◌≤◌, IfOk};
 ghost use Rattle.replay_charts.specs.Head.{size_from, head_from};
 
+use charts::{INDIVIDUALS, X_BAR_S};
 use lists::{Fault, Item, Read};
+use sets::RuleSet;
 
-// The most samples that a case has, and the most values of one of them.
-const MOST_SAMPLES: u16 = 4096;
+/// The most samples that a case has, and the most values of one of them.
+pub const MOST_SAMPLES: usize = 4096;
 
-const MOST_VALUES: u16 = 25;
+pub const MOST_VALUES: usize = 25;
 
 /// What chart it is, and the number of its samples.
 #[derive(Clone, Copy)]
@@ -23,10 +25,10 @@ fn read_size(list: &[u8], at: usize, kind: u16) -> Result<Read<u16>, Fault>
     ensures result_value { result ≡ size_from list.now kind at }
     ensures most { IfOk result (λ size. size.value ≤ 25) }
 {
-    if kind == 1 {
+    if u64::from(kind) == INDIVIDUALS {
         return lists::read_small(list, at, Item::Size, 1, 1);
     }
-    lists::read_small(list, at, Item::Size, 2, MOST_VALUES)
+    lists::read_small(list, at, Item::Size, 2, MOST_VALUES as u16)
 }
 
 /// Reads the head that begins at the place `at`.
@@ -35,10 +37,10 @@ pub fn read_head(list: &[u8], at: usize) -> Result<Read<Head>, Fault>
     ensures result_value { result ≡ head_from list.now at }
     ensures within { IfOk result (λ head. (head.value.size ≤ 25) × (head.value.count ≤ 4096)) }
 {
-    let kind = lists::read_small(list, at, Item::Kind, 1, 3)?;
+    let kind = lists::read_small(list, at, Item::Kind, INDIVIDUALS as u16, X_BAR_S as u16)?;
     let size = read_size(list, kind.next, kind.value)?;
-    let set = lists::read_small(list, size.next, Item::Set, 0, lists::ALL_TESTS)?;
-    let count = lists::read_small(list, set.next, Item::Samples, 0, MOST_SAMPLES)?;
+    let set = lists::read_small(list, size.next, Item::Set, 0, RuleSet::ALL)?;
+    let count = lists::read_small(list, set.next, Item::Samples, 0, MOST_SAMPLES as u16)?;
     let value = Head {
         kind: kind.value,
         size: size.value,

@@ -14,11 +14,11 @@ ghost use Rattle.lists.specs.Outcomes.{OnlyIf};
 ghost use Rattle.replay_charts.specs.Answer.{rows};
 ghost use Rattle.replay_charts.specs.Held.{Held, refused_alike, rest_is};
 
-use answers::{Answers, Series};
-use charts::{Chart, Refusal};
+use answers::{Answers, Lent};
+use charts::{Chart, INDIVIDUALS, Refusal};
 use evaluating::Evaluation;
-use head::Head;
-use lists::{Case, Difference, Fault, Item, Outcome, Read};
+use head::{Head, MOST_SAMPLES, MOST_VALUES};
+use lists::{Case, Difference, Fault, Form, Item, Outcome, Read};
 use numbers::Numbered;
 use rules::SAME_WIDTHS;
 use sets::RuleSet;
@@ -32,7 +32,7 @@ const STOPPED_CASE: u16 = 5;
 const MODED_CASE: u16 = 11;
 
 // The longest list of stops.
-const MOST_STOPS: u16 = 4096;
+const MOST_STOPS: usize = 4096;
 
 // How many entries more than its series a lent slice has.
 const SPARE: usize = 4;
@@ -115,7 +115,7 @@ fn fill(
     requires { head.size ≤ 25 }
 {
     let mut made = make(head, counted);
-    let mut sample = [0.0f64; 25];
+    let mut sample = [0.0f64; MOST_VALUES];
     let sample = &mut sample[..usize::from(head.size)];
     let mut next = at;
     for _ in 0..head.count {
@@ -129,7 +129,7 @@ fn fill(
 fn dispersion_points(head: Head) -> u16
     ensures { result ≤ head.count }
 {
-    if head.kind == 1 {
+    if u64::from(head.kind) == INDIVIDUALS {
         return head.count.saturating_sub(1);
     }
     head.count
@@ -163,7 +163,7 @@ fn left_by(evaluated: Result<Evaluation, Refusal>, n: usize, d: usize) -> Left
 }
 
 // Whether the slices are behind the answer as they ought to be.
-fn rest_is(left: Left, slices: Series) -> bool
+fn rest_is(left: Left, slices: Lent) -> bool
     ensures { result ≡ rest_is left (rows slices.entry) }
 {
     lists::all_are(slices.main, left.n, &left.point)
@@ -177,16 +177,17 @@ fn rest_is(left: Left, slices: Series) -> bool
 fn refused_alike(ours: Answers) -> bool
     ensures { result ≡ refused_alike ours }
 {
-    let number = ours.evaluated.number();
-    if number == 0 {
+    let Err(why) = ours.evaluated else {
         return true;
-    }
+    };
+    // by their numbers: "refused by the same number" (oracle/FORMAT.md)
+    let number = why.number();
     let alike = (ours.sigma_hat.number() == number) & (ours.sigma_hat_df.number() == number);
-    (answer::apart(u16::from(number)) | alike) & (ours.none_stands == (number == 8))
+    (answer::apart(why) | alike) & (ours.none_stands == matches!(why, Refusal::TooFew))
 }
 
 // Holds all that a chart answers and leaves.
-fn hold(stored: &[u8], ours: Answers, left: Left, slices: Series) -> Outcome
+fn hold(stored: &[u8], ours: Answers, left: Left, slices: Lent) -> Outcome
     requires n_in_bounds { (left.n ≤ length slices.main.now) × (left.d ≤ length slices.dispersion.now) }
     requires n_in_bounds_2 { (left.n ≤ length slices.main_marks.now) × (left.d ≤ length slices.dispersion_marks.now) }
     ensures { OnlyIf (Held stored.now ours left (rows slices.entry)) result }
@@ -197,7 +198,7 @@ fn hold(stored: &[u8], ours: Answers, left: Left, slices: Series) -> Outcome
     if !rest_is(left, slices) {
         return Err(Difference::Overrun);
     }
-    let series = Series {
+    let series = Lent {
         main: &slices.main[..left.n],
         dispersion: &slices.dispersion[..left.d],
         main_marks: &slices.main_marks[..left.n],
@@ -210,10 +211,10 @@ fn hold(stored: &[u8], ours: Answers, left: Left, slices: Series) -> Outcome
 fn judge(stored: &[u8], chart: Chart, ahead: Ahead, values: &[f64], n: usize, d: usize) -> Outcome
     requires { (n ≤ 4096) × (d ≤ 4096) }
 {
-    let mut main = [UNTOUCHED_POINT; 4100];
-    let mut dispersion = [UNTOUCHED_POINT; 4100];
-    let mut main_marks = [UNTOUCHED_MARKS; 4100];
-    let mut dispersion_marks = [UNTOUCHED_MARKS; 4100];
+    let mut main = [UNTOUCHED_POINT; MOST_SAMPLES + SPARE];
+    let mut dispersion = [UNTOUCHED_POINT; MOST_SAMPLES + SPARE];
+    let mut main_marks = [UNTOUCHED_MARKS; MOST_SAMPLES + SPARE];
+    let mut dispersion_marks = [UNTOUCHED_MARKS; MOST_SAMPLES + SPARE];
     let main = &mut main[..n + SPARE];
     let dispersion = &mut dispersion[..d + SPARE];
     let main_marks = &mut main_marks[..n + SPARE];
@@ -228,7 +229,7 @@ fn judge(stored: &[u8], chart: Chart, ahead: Ahead, values: &[f64], n: usize, d:
         main_marks,
         dispersion_marks,
     );
-    let slices = Series {
+    let slices = Lent {
         main,
         dispersion,
         main_marks,
@@ -258,8 +259,8 @@ fn replay_chart(list: &[u8], at: usize, ahead: Ahead, values: &mut [f64]) -> Res
 // Replays a case with stops from its count of them on, which stands at the place `at`.
 fn replay_stopped(list: &[u8], at: usize, width: u64, values: &mut [f64]) -> Result<Case, Fault> {
     let count = lists::read_number(list, at, Item::Stops)?;
-    let length = lists::read_small(list, count.next, Item::Stops, 0, MOST_STOPS)?;
-    let mut stops = [0usize; 4096];
+    let length = lists::read_small(list, count.next, Item::Stops, 0, MOST_STOPS as u16)?;
+    let mut stops = [0usize; MOST_STOPS];
     let stops = &mut stops[..usize::from(length.value)];
     let next = lists::read_row(list, length.next, Item::Stop, stops)?;
     let ahead = Ahead {
@@ -273,26 +274,26 @@ fn replay_stopped(list: &[u8], at: usize, width: u64, values: &mut [f64]) -> Res
 // Replays the case that begins at the place `at`.
 fn replay_case(list: &[u8], at: usize, values: &mut [f64]) -> Result<Case, Fault> {
     let tag = lists::read_tag(list, at, CHART_CASE, STOPPED_CASE, MODED_CASE)?;
-    if tag.value == MODED_CASE {
-        let width = lists::read_number(list, tag.next, Item::Width)?;
-        return replay_stopped(list, width.next, width.value, values);
+    match tag.value {
+        Form::Moded => {
+            let width = lists::read_number(list, tag.next, Item::Width)?;
+            replay_stopped(list, width.next, width.value, values)
+        }
+        Form::Stopped => replay_stopped(list, tag.next, SAME_WIDTHS, values),
+        Form::Plain => {
+            let ahead = Ahead {
+                width: SAME_WIDTHS,
+                counted: None,
+                stops: &[],
+            };
+            replay_chart(list, tag.next, ahead, values)
+        }
     }
-    if tag.value == STOPPED_CASE {
-        return replay_stopped(list, tag.next, SAME_WIDTHS, values);
-    }
-    let ahead = Ahead {
-        width: SAME_WIDTHS,
-        counted: None,
-        stops: &[],
-    };
-    replay_chart(list, tag.next, ahead, values)
 }
 
 fn main(rt: HostRuntime) -> io::Result<()> {
-    // one byte more than a list may have, so that a longer one is seen
-    let mut bytes = [0u8; 400_001];
-    // 4,096 samples of 25
-    let mut values = [0.0f64; 102_400];
+    let mut bytes = [0u8; lists::ROOM];
+    let mut values = [0.0f64; MOST_SAMPLES * MOST_VALUES];
     let n = lists::read_input(&rt, &mut bytes)?;
     let list = &bytes[..n];
     lists::replay(&rt, list, |at| replay_case(list, at, &mut values))

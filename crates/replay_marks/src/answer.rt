@@ -5,7 +5,7 @@ ghost use Rattle.lists.specs.Outcomes.{OnlyIf};
 ghost use Rattle.replay_marks.specs.Held.{answer_bytes};
 
 use groups::TooShort;
-use lists::{Bytes, Difference, Fault, Item, Outcome};
+use lists::{Bytes, Fault, Item, Outcome};
 
 // The bytes of the longest answer: a number of one byte and 4,096 marks of two.
 const LONGEST: usize = 8193;
@@ -26,10 +26,8 @@ pub fn hold(stored: &[u8], stopped: bool, number: u8, marks: &[u16]) -> Outcome
     ensures { OnlyIf (in_groups (answer_bytes stopped number marks.now) ≡ stored.now) result }
 {
     let mut ours = Bytes::new();
-    match put(&mut ours, stopped, number, marks) {
-        Ok(()) => lists::compare(ours.as_slice(), stored),
-        Err(_) => Err(Difference::Length(LONGEST + 1)),
-    }
+    let put = put(&mut ours, stopped, number, marks);
+    lists::hold(&ours, put, stored)
 }
 
 /// Passes over the stored answer to n values.

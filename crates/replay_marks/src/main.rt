@@ -13,9 +13,9 @@ ghost use Rattle.rules.specs.Terms.{told};
 ghost use Rattle.rules.specs.Marking.{answer_of};
 ghost use Rattle.replay_marks.specs.Held.{Held, SomeHeld, written};
 
-use lists::{Case, Difference, Fault, Item, Outcome};
+use lists::{Case, Difference, Fault, Form, Item, Outcome};
 use numbers::Numbered;
-use rules::{Limits, SAME_WIDTHS, Terms};
+use rules::{Limits, MOST, SAME_WIDTHS, Terms};
 use sets::RuleSet;
 use std::io;
 
@@ -26,25 +26,22 @@ const STOPPED_CASE: u16 = 4;
 
 const MODED_CASE: u16 = 10;
 
-// The most values that a case has, and the most stops.
-const MOST: u16 = 4096;
-
 // How many entries more than marks a slice for them has.
 const SPARE: usize = 4;
 
 // What a slice for marks holds before they are made. No marks are this, and past the last of them it has to stay.
 const UNTOUCHED: u16 = 0xffff;
 
-// What stands ahead of the set of a case. One with stops (`stopped`), which may be none, has 01's number in front of the marks.
+// What stands ahead of the set of a case: its width mode, whether it has moving ranges, and its list of stops, where it has one.
 #[derive(Clone, Copy)]
 struct Ahead<'a> {
-    stopped: bool,
     width: u64,
     moving: bool,
-    stops: &'a [usize],
+    stops: Option<&'a [usize]>,
 }
 
-// How the series of a case is marked.
+// How the series of a case is marked. One with a list of stops (`stopped`), which may be empty as that of any other, has 01's
+// number in front of the marks.
 #[derive(Clone, Copy)]
 struct Asked<'a> {
     stopped: bool,
@@ -60,7 +57,8 @@ fn written_by(number: u8, n: usize) -> usize
     if number == 0 { n } else { 0 }
 }
 
-// Holds all that marking n values answers and leaves to the stored answer.
+// Holds all that marking n values answers and leaves to the stored answer. It is told 01's number and not the refusal: a stored
+// answer begins with the number, which alone is held to it.
 fn hold(stored: &[u8], stopped: bool, number: u8, n: usize, marks: &[u16]) -> Outcome
     requires { n ≤ length marks.now }
     ensures { OnlyIf (Held stored.now stopped number n marks.now) result }
@@ -97,15 +95,15 @@ fn judge_lane(stored: &[u8], asked: Asked, values: &[f64], marks: &mut [u16]) ->
 
 // Replays a case from the number of its values on, which stands at the place `at`.
 fn replay_count(list: &[u8], at: usize, asked: Asked) -> Result<Case, Fault> {
-    let count = lists::read_small(list, at, Item::Count, 0, MOST)?;
+    let count = lists::read_small(list, at, Item::Count, 0, MOST as u16)?;
     let n = usize::from(count.value);
-    let mut values = [0.0f64; 4096];
+    let mut values = [0.0f64; MOST];
     let values = &mut values[..n];
     let answer_at = lists::read_row(list, count.next, Item::Value, values)?;
     let next = answer::pass(list, answer_at, asked.stopped, n)?;
     let stored = lists::stored(list, answer_at, next);
-    let mut marks = [UNTOUCHED; 4100];
-    let mut singly = [UNTOUCHED; 4100];
+    let mut marks = [UNTOUCHED; MOST + SPARE];
+    let mut singly = [UNTOUCHED; MOST + SPARE];
     let outcome = judge(stored, asked, values, &mut marks[..n + SPARE]).and_then(|()| judge_lane(
         stored,
         asked,
@@ -117,16 +115,16 @@ fn replay_count(list: &[u8], at: usize, asked: Asked) -> Result<Case, Fault> {
 
 // Replays a case from its set on, which stands at the place `at`.
 fn replay_set(list: &[u8], at: usize, ahead: Ahead) -> Result<Case, Fault> {
-    let set = lists::read_small(list, at, Item::Set, 0, lists::ALL_TESTS)?;
+    let set = lists::read_small(list, at, Item::Set, 0, RuleSet::ALL)?;
     let mut lines = [0.0f64; 3];
     let next = lists::read_row(list, set.next, Item::Limit, &mut lines)?;
     let [ucl, cl, lcl] = lines;
     let asked = Asked {
-        stopped: ahead.stopped,
+        stopped: ahead.stops.is_some(),
         terms: Terms {
             limits: Limits { ucl, cl, lcl },
             width: ahead.width,
-            stops: ahead.stops,
+            stops: ahead.stops.unwrap_or(&[]),
             moving: ahead.moving,
         },
         set: RuleSet { mask: set.value },
@@ -137,15 +135,14 @@ fn replay_set(list: &[u8], at: usize, ahead: Ahead) -> Result<Case, Fault> {
 // Replays a case with stops from whether it has moving ranges on, which stands at the place `at`.
 fn replay_stopped(list: &[u8], at: usize, width: u64) -> Result<Case, Fault> {
     let moving = lists::read_small(list, at, Item::Moving, 0, 1)?;
-    let count = lists::read_small(list, moving.next, Item::Stops, 0, MOST)?;
-    let mut stops = [0usize; 4096];
+    let count = lists::read_small(list, moving.next, Item::Stops, 0, MOST as u16)?;
+    let mut stops = [0usize; MOST];
     let stops = &mut stops[..usize::from(count.value)];
     let next = lists::read_row(list, count.next, Item::Stop, stops)?;
     let ahead = Ahead {
-        stopped: true,
         width,
         moving: moving.value == 1,
-        stops,
+        stops: Some(stops),
     };
     replay_set(list, next, ahead)
 }
@@ -153,25 +150,25 @@ fn replay_stopped(list: &[u8], at: usize, width: u64) -> Result<Case, Fault> {
 // Replays the case that begins at the place `at`.
 fn replay_case(list: &[u8], at: usize) -> Result<Case, Fault> {
     let tag = lists::read_tag(list, at, MARKS_CASE, STOPPED_CASE, MODED_CASE)?;
-    if tag.value == MODED_CASE {
-        let width = lists::read_number(list, tag.next, Item::Width)?;
-        return replay_stopped(list, width.next, width.value);
+    match tag.value {
+        Form::Moded => {
+            let width = lists::read_number(list, tag.next, Item::Width)?;
+            replay_stopped(list, width.next, width.value)
+        }
+        Form::Stopped => replay_stopped(list, tag.next, SAME_WIDTHS),
+        Form::Plain => {
+            let ahead = Ahead {
+                width: SAME_WIDTHS,
+                moving: false,
+                stops: None,
+            };
+            replay_set(list, tag.next, ahead)
+        }
     }
-    if tag.value == STOPPED_CASE {
-        return replay_stopped(list, tag.next, SAME_WIDTHS);
-    }
-    let ahead = Ahead {
-        stopped: false,
-        width: SAME_WIDTHS,
-        moving: false,
-        stops: &[],
-    };
-    replay_set(list, tag.next, ahead)
 }
 
 fn main(rt: HostRuntime) -> io::Result<()> {
-    // one byte more than a list may have, so that a longer one is seen
-    let mut bytes = [0u8; 400_001];
+    let mut bytes = [0u8; lists::ROOM];
     let n = lists::read_input(&rt, &mut bytes)?;
     let list = &bytes[..n];
     lists::replay(&rt, list, |at| replay_case(list, at))

@@ -34,10 +34,10 @@ fn judge(flow: &[u8], room: &mut [u8], right: &[u8], n: usize) -> Outcome
 
 // Room for any report of a list, and `SPARE` bytes more, untouched. It is a function since a goal would have to see through an array
 // so long.
-fn untouched() -> [u8; 400_005]
+fn untouched() -> [u8; lists::ROOM + SPARE]
     ensures { 400005 ≡ length result }
 {
-    [UNTOUCHED; 400_005]
+    [UNTOUCHED; lists::ROOM + SPARE]
 }
 
 // Whether a room one byte shorter than the report, whose length is n, is taken.
@@ -78,11 +78,11 @@ fn replay_case(list: &[u8], at: usize) -> Result<Case, Fault>
     })
 }
 
-// Room for a list, and one byte more, so that a longer one is seen; a function as `untouched` is.
-fn list_room() -> [u8; 400_001]
+// Room for a list; a function as `untouched` is.
+fn list_room() -> [u8; lists::ROOM]
     ensures { 400001 ≡ length result }
 {
-    [0; 400_001]
+    [0; lists::ROOM]
 }
 
 fn main(rt: HostRuntime) -> io::Result<()> {

@@ -55,6 +55,8 @@ fn compare(file: &[u8]) -> Tally
     ensures differ { result.differ ≡ differing file.now result.pairs }
     ensures cut { result.cut ≡ length file.now % 16 }
 {
+    // no `chunks_exact(PAIR)`: its chunks are slices, whose two numbers come in an Option again, and here one Option says both
+    // whether there is a pair and what it is
     let mut rest = file;
     let mut pairs: u64 = 0;
     let mut differ: u64 = 0;
@@ -75,21 +77,17 @@ fn compare(file: &[u8]) -> Tally
     }
 }
 
-// Writes a number with what stands before and after it.
-fn say(rt: &impl Print, before: &str, n: u64, after: &str) -> io::Result<()> {
-    print!(rt; "{before}{n}{after}")
-}
-
 // Writes what was counted.
 fn tell(rt: &impl Print, t: Tally) -> io::Result<()> {
-    say(rt, "", t.pairs, " roots, ")?;
-    say(rt, "", t.differ, " differ\n")?;
+    println!(rt; "{} roots, {} differ", t.pairs, t.differ)?;
     if let Some(first) = t.first {
-        say(rt, "the first at pair ", first, "\n")?;
+        println!(rt; "the first at pair {first}")?;
     }
     if t.cut > 0 {
-        say(rt, "the file is cut in pair ", t.pairs, "")?;
-        say(rt, ", after ", t.cut, " of its 16 bytes\n")?;
+        println!(rt;
+            "the file is cut in pair {}, after {} of its 16 bytes",
+            t.pairs, t.cut
+        )?;
     }
     Ok(())
 }

@@ -4,7 +4,7 @@
 // works it out from 01 and 02 by itself.
 #![tactic(auto)]
 
-ghost use Rattle.std.specs.Prelude.{◌<◌, ◌≤◌, ◌≡◌, length};
+ghost use Rattle.std.specs.Prelude.{◌<◌, ◌≤◌, ◌≡◌, length, IfSome};
 
 use numbers::Numbered;
 use rules::{Limits, MOST, OWN_WIDTHS, Refusal, SAME_WIDTHS, Terms};
@@ -18,20 +18,13 @@ fn fold(all: u64, x: u64) -> u64 {
 }
 
 // What the checker answered: how often it gave each number, and what all its answers come to.
-#[derive(Drop)]
+#[derive(Default, Drop)]
 struct Tally {
     numbers: [u64; 12],
     all: u64,
 }
 
 impl Tally {
-    fn start() -> Tally {
-        Tally {
-            numbers: [0; 12],
-            all: 0,
-        }
-    }
-
     fn fold(&mut self, x: u64) {
         self.all = fold(self.all, x);
     }
@@ -89,11 +82,12 @@ impl<'a> Case<'a> {
         sheets::write(self.values, self.terms(), self.set, room)
     }
 
-    // The length of the sheet that is written into the room, or 0 where it is refused.
-    fn sheet(self, room: &mut [u8]) -> usize
-        ensures { result ≤ length room.new }
+    // Writes a sheet into the room, and gives its length, unless it is refused.
+    fn sheet(self, room: &mut [u8]) -> Option<usize>
+        ensures { IfSome result (λ n. n ≤ length room.new) }
     {
-        self.write(room).unwrap_or(0).min(room.len())
+        let n = self.write(room).ok()?;
+        Some(n.min(room.len()))
     }
 
     // Checks the sheet cut at each place.
@@ -134,29 +128,34 @@ impl<'a> Case<'a> {
         }
     }
 
-    // Writes a sheet into the room, and checks it as it is, changed, cut and extended. Gives its length.
-    fn trial(self, room: &mut [u8], tally: &mut Tally) -> usize {
-        let n = self.sheet(room);
+    // Writes a sheet into the room, and checks it as it is, changed, cut and extended. Gives its length,
+    // unless it is refused.
+    fn trial(self, room: &mut [u8], tally: &mut Tally) -> Option<usize> {
+        let n = self.sheet(room)?;
         tally.count(self.check(&room[..n]));
         self.cut(&room[..n], tally);
         self.change(&mut room[..n], tally);
         if n < room.len() {
             self.extend(&mut room[..n + 1], tally);
         }
-        n
+        Some(n)
     }
 
     // Whether a room one byte shorter than the sheet is refused.
     fn short_refused(self, room: &mut [u8]) -> bool {
-        let n = self.sheet(room);
-        n != 0 && self.write(&mut room[..n - 1]).number() == 6
+        match self.sheet(room) {
+            Some(n) if 0 < n => self.write(&mut room[..n - 1]) == Err(Refusal::TooShort),
+            _ => false,
+        }
     }
 
     // Whether the sheet is these bytes.
     fn written(self, bytes: &[u8]) -> bool {
         let mut room = [0u8; 64];
-        let n = self.sheet(&mut room);
-        &room[..n] == bytes
+        match self.sheet(&mut room) {
+            Some(n) => &room[..n] == bytes,
+            None => false,
+        }
     }
 }
 
@@ -207,7 +206,9 @@ fn hundred(tally: &mut Tally) -> u64 {
                 mask: (next(k) / 128 % 512) as u16,
             },
         };
-        bytes = bytes.wrapping_add(case.trial(&mut room, tally) as u64);
+        if let Some(n) = case.trial(&mut room, tally) {
+            bytes = bytes.wrapping_add(n as u64);
+        }
     }
     bytes
 }
@@ -222,7 +223,7 @@ fn longest() -> Option<usize> {
     if !case.short_refused(&mut room) {
         return None;
     }
-    let n = case.sheet(&mut room);
+    let n = case.sheet(&mut room)?;
     case.check(&room[..n]).ok()?;
     Some(n)
 }
@@ -231,7 +232,7 @@ fn main(rt: HostRuntime) -> io::Result<()> {
     if !rows() {
         println!(rt; "row 10 or row 11 is wrong")?;
     }
-    let mut tally = Tally::start();
+    let mut tally = Tally::default();
     let bytes = hundred(&mut tally);
     let by = tally.numbers;
     print!(rt;

@@ -32,8 +32,8 @@ impl fmt::Display for Failure {
 fn read_input(input: &mut impl Read, room: &mut [u8]) -> io::Result<usize>
     ensures { IfOk result (λ n. n ≤ length room.new) }
 {
-    // a loop over `read`, as in crate `lists`, which this program does without: the library's `read_to_end` reads into a Vec, and
-    // there is no heap
+    // A loop over `read`: `read_to_end` reads into a Vec, and this program, as the library that it runs, uses no heap. That of
+    // `lists::read_input` is the same; but `lists` serves the tests alone, and this program stands on no test's crate.
     let mut done = 0;
     while done < room.len() {
         let n = input.read(&mut room[done..])?;

@@ -14,7 +14,7 @@ pub returns-in-Ok : goal.returns-in-Ok
 unfolding answer_of
 returns-in-Ok c =
     let old = c.args.ours.now in
-    let told_is = c.from-2.ensures ∙ c.number-number.ensures ∙ ap told c.in-Ok.is in
+    let told_is = c.from.ensures ∙ c.number.ensures ∙ ap told c.in-Ok.is in
     rw c.in-Ok.is
     (on_ok_weaker c.put_found.result (put_then old (0 ∷ []) _ (put_one old 0 (c.in_ok-put.ensures ∙ ap (λ n. old ++ groups n) told_is))) c.put_found.ensures)
 
@@ -22,22 +22,20 @@ pub returns-in-Err : goal.returns-in-Err
 unfolding answer_of
 returns-in-Err c =
     let old = c.args.ours.now in
-    let why = c.in-Err.field-0 in
-    let told_is : c.number-number.result ≡ number why = c.number-number.ensures ∙ ap told c.in-Err.is in
-    let follow : apart (number why) ≡ true =
-    ap apart (sym told_is) ∙ ap apart (sym c.from.ensures) ∙ sym c.apart-figures_follow.ensures ∙ c.if-figures_follow.true in
+    let why = c.in-Err.why in
+    let told_is = c.from.ensures ∙ c.number.ensures ∙ ap told c.in-Err.is in
+    let follow : apart (number why) ≡ true = sym c.apart.ensures ∙ c.if-apart.true in
     rw (c.in-Err.is, follow)
     (on_ok_weaker c.put_figures.result
     (put_then old (number why ∷ []) (figures_of c.args.answers)
-    (put_one old (number why) (c.in_ok-put.ensures ∙ ap (λ n. old ++ groups n) (c.from-2.ensures ∙ told_is))))
+    (put_one old (number why) (c.in_ok-put.ensures ∙ ap (λ n. old ++ groups n) told_is)))
     c.put_figures.ensures)
 
 pub returns-in-Err-2 : goal.returns-in-Err-2
 unfolding answer_of
 returns-in-Err-2 c =
     let old = c.args.ours.now in
-    let why = c.in-Err-2.field-0 in
-    let told_is : c.number-number.result ≡ number why = c.number-number.ensures ∙ ap told c.in-Err-2.is in
-    let alone : apart (number why) ≡ false =
-    ap apart (sym told_is) ∙ ap apart (sym c.from.ensures) ∙ sym c.apart-figures_follow.ensures ∙ c.if-figures_follow.false in
-    rw (c.in-Err-2.is, alone) (put_one old (number why) (c.in_ok-put.ensures ∙ ap (λ n. old ++ groups n) (c.from-2.ensures ∙ told_is)))
+    let why = c.in-Err.why in
+    let told_is = c.from.ensures ∙ c.number.ensures ∙ ap told c.in-Err.is in
+    let alone : apart (number why) ≡ false = sym c.apart.ensures ∙ c.if-apart.false in
+    rw (c.in-Err.is, alone) (put_one old (number why) (c.in_ok-put.ensures ∙ ap (λ n. old ++ groups n) told_is))
