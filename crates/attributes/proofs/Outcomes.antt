@@ -1,5 +1,5 @@
 -- Evaluating, of either chart: each case of the answer, and the slices. Assumes nothing.
-use Rattle.std.proofs.Common.{◌≡◌, ℕ, ◌≤◌, Bool, true, false, cond, not, eqb, List, [], ◌∷◌, length, get_or, take, drop, sym, refl, ap, ◌∙◌, ap₂, arith, length-append, length-drop, length-take-le, take_at, ◌++◌, ne_eqb, eqb-true}
+use Rattle.std.proofs.Common.{◌≡◌, ℕ, ◌≤◌, Bool, true, false, cond, not, eqb, List, [], ◌∷◌, length, get_or, get_or-take, take, drop, sym, refl, ap, ◌∙◌, ap₂, arith, length-append, length-drop, length-take-le, take_at, ◌++◌, ne_eqb, eqb-true}
 use borrow.Author.Tests.{not-true}
 use lib.Seq.{drop_at}
 use lib.Ieee.{Float, nan, binary64, div}
@@ -10,7 +10,7 @@ use Rattle.laws.specs.Front.{at_front, lent_after}
 use Rattle.laws.proofs.Lists.{length-tabulate, get_d_tabulate, same-tabulate}
 use Rattle.laws.proofs.LentAfter.{slice_kept, slice-same, slice_over}
 use Rattle.laws.proofs.Refusals.{passed, refused, none-applies, first-append, first_else, first-such}
-use Rattle.floats.specs.Values.{plus_zero}
+use Rattle.floats.specs.Values.{plus_zero, whole as whole_of}
 use Rattle.points.specs.Points.{Plot, sound, uppers, lowers, outs, zs, has_zs}
 use Rattle.points.specs.Plotting.{any_shorter, plot_from, plot_number}
 use Rattle.points.specs.Steps.{settled}
@@ -74,6 +74,18 @@ module _ (wrong : Bool) (count : ℕ) (short : Bool) (g : Plot) where
       by false q = refused _ _ _ _ (ap not q) ∙ sym (ap settled q)
 
 -- ---- the points of samples whose sizes stand in front of the slice of upper limits
+
+-- values, in a slice cut for them
+pub in-front : (counts : List ℕ) (n : ℕ) (sizes old : List Float) {vs : List Float} → length sizes ≡ n → vs ≡ values_of (take n counts) sizes
+    → vs ++ drop n old ≡ at_front (values_of counts sizes) old
+in-front counts n sizes old long e =
+    let cut : ℕ → Float = λ i. div binary64 (whole_of (get_or (take n counts) i 0)) (get_or sizes i nan) in
+    let all : ℕ → Float = λ i. div binary64 (whole_of (get_or counts i 0)) (get_or sizes i nan) in
+    ap₂ ◌++◌
+    (e
+    ∙ same-tabulate cut all (length sizes)
+    (λ k q. ap (λ (c : ℕ). div binary64 (whole_of c) (get_or sizes k nan)) (get_or-take n counts k 0 (omega (arith, q, long)))))
+    (ap (λ (k : ℕ). drop k old) (sym (length-tabulate all (length sizes) ∙ long)))
 
 -- variances, and their roots in their place
 pub in-two-steps : (variance : Float) (n : ℕ) (old : List Float) {vs now : List Float} → n ≤ length old

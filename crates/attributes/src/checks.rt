@@ -7,14 +7,20 @@ ghost use Rattle.attributes.specs.Steps.{tested, adding, ahead};
 use super::Refusal;
 
 // The largest count that is taken: the total of 4,096 is then exact as an f64.
-pub const MOST: u64 = 4294967295;
+pub const MOST: u64 = u32::MAX as u64;
+
+// The most samples that a chart holds.
+const ROOM: usize = 4096;
 
 // Whether the record is no chart, by whether its centre is not allowed, its count, and the lengths of its slices.
 pub fn record_wrong(centre: bool, count: usize, counts: usize, sizes: usize) -> bool
     ensures { result ≡ record_wrong centre count counts sizes }
 {
-    centre | (4096 < count) | (counts < count) | (sizes < count)
+    centre | (ROOM < count) | (counts < count) | (sizes < count)
 }
+
+// What was found and the lengths come apart, as the definitions take them (`adding`, `ahead`): methods of the chart would
+// ask for the kind, of which these say nothing.
 
 // 14, what the sample's own tests found, 5 and 6.
 pub fn adding(
@@ -30,7 +36,7 @@ pub fn adding(
         return Err(Refusal::Record);
     }
     sample?;
-    if 4096 <= count {
+    if ROOM <= count {
         return Err(Refusal::Full);
     }
     if (counts <= count) | (sizes <= count) {

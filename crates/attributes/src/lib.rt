@@ -21,7 +21,8 @@ use numbers::Numbered;
 use size::Size;
 use std::marker::PhantomData;
 
-/// The centre of a chart.
+/// The centre of a chart. It has the shape of an `Option<f64>`, and is a type of its own, since its names say more
+/// (docs/DECISIONS.md, 74).
 #[derive(Clone, Copy, Debug, PartialEq)]
 pub enum Centre {
     /// Computed from the samples.
@@ -223,6 +224,8 @@ impl<S: Size> Chart<S> {
     ///
     /// P: with the centre 0.5 and 36 inspected the limits are 0.75 and 0.25: 27 damaged are on the upper one, and in control.
     /// U: with the centre 16.0 and one unit the limits are 28.0 and 4.0: 29 damaged are out of control.
+    //
+    // Six slices and no struct of them, as in `points::plot`, which says why.
     pub fn evaluate(
         self,
         counts: &[u64],

@@ -1,12 +1,12 @@
 // The points of both charts, once the samples' sizes are f64s.
 ghost use Rattle.std.specs.Prelude.{◌≡◌, ◌≤◌, false, length, take};
-ghost use Rattle.laws.specs.Front.{at_front, lent_after};
+ghost use Rattle.laws.specs.Front.{lent_after};
 ghost use Rattle.floats.specs.Values.{plus_zero};
 ghost use Rattle.points.specs.Points.{sound, uppers, lowers, outs, zs, has_zs};
 ghost use Rattle.points.specs.Plotting.{plotted};
 ghost use Rattle.points.specs.Steps.{settled};
 ghost use Rattle.attributes.specs.Evaluating.{evaluated, answer_for, values_of, plot_of};
-ghost use Rattle.attributes.specs.Steps.{plotting, variances_of, roots_of, SmallTo};
+ghost use Rattle.attributes.specs.Steps.{plotting, variances_of, roots_of, Small, SmallTo};
 
 use super::Refusal;
 
@@ -21,11 +21,12 @@ impl From<points::Refusal> for Refusal {
     }
 }
 
-// Of n samples, in slices that may be longer. Counts that 14 does not refuse fit a u32, whose cast takes least.
-fn fill_values(n: usize, counts: &[u64], sizes: &[f64], out: &mut [f64])
-    requires { (n ≤ length counts.now) × (n ≤ length sizes.now) × (n ≤ length out.old) × SmallTo n counts.now }
-    ensures { out.new ≡ at_front (values_of counts.now (take n sizes.now)) out.old }
+// Counts that 14 does not refuse fit a u32, whose cast takes least. By the index: a zip of three slices is no plainer.
+fn fill_values(counts: &[u64], sizes: &[f64], out: &mut [f64])
+    requires { (length counts.now ≡ length out.old) × (length sizes.now ≡ length out.old) × Small counts.now }
+    ensures { out.new ≡ values_of counts.now sizes.now }
 {
+    let n = out.len();
     for i in 0..n {
         out[i] = f64::from(counts[i] as u32) / sizes[i];
     }
@@ -87,7 +88,7 @@ pub fn evaluate(
     ensures has_z { has_z.new
         ≡ lent_after (evaluated result).0 false (has_zs (plot_of cl variance counts.now (take n ucl.old))) has_z.old }
 {
-    fill_values(n, counts, ucl, values);
+    fill_values(&counts[..n], &ucl[..n], &mut values[..n]);
     variances(variance, &mut ucl[..n]);
     sigmas(&mut ucl[..n]);
     answer(points::plot(cl, n, values, ucl, lcl, out, z, has_z), cl)

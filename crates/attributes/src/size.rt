@@ -11,7 +11,8 @@ use super::Refusal;
 
 /// The size of a sample: how many parcels were inspected, of a P chart (u64), or units, of a U chart (f64).
 ///
-/// Slices may be longer than the samples that count, so how many these are comes beside them.
+/// How many samples count comes beside slices that may be longer, as the definitions take them (`stored_right`, a kind's
+/// `sizes`): that cut slices say the same would be a law more of each kind, which is no plainer.
 pub trait Size: Copy {
     ghost kind: { Kind Self };
 

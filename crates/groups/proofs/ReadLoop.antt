@@ -15,6 +15,12 @@ use lib.Pow.{pow-add, pow_mono, shl_exact}
 use lib.Dec.{ltb, eqb}
 use lib.Bits.{bit_and, bit_or, and_mask, or_shifted_r}
 use borrow.Author.Tests.{ltb-true, ltb-false, ne_eqb, eq-eqb, eqb-true, eqb-false}
+use mathlib.Core.Bool.{true≢false, false≢true}
+use mathlib.Core.Logic.{⊎_elim}
+use mathlib.Core.List.{[]}
+use Rattle.std.proofs.Common.{Bor, Option, Result, Some, None, Ok, Err, ok_or, is_err}
+use Rattle.std.specs.Slice.{IsGetRangeResult}
+use Rattle.groups.specs.declared.Fault.{Fault}
 use Rattle.groups.specs.Groups.{Front, some, none, before, front, read_as, number_at, number_is, fault_is}
 use Rattle.groups.proofs.Strings.{before-some, before-zero, front-one, front-more}
 use Rattle.groups.proofs.Numbers.{read_some, read-over}
@@ -120,9 +126,30 @@ pub reads-starts : (r : List ℕ) → Reads r 0 0
 reads-starts r = record { few = omega arith; small = omega arith; rest = sym (ahead_none (front r)) }
 
 -- the bytes from the place on, as the code cuts them out
-pub from-there : (s : List ℕ) (at : ℕ) → read_as at (front (take (length s - at) (drop at s))) ≡ number_at s at
+from-there : (s : List ℕ) (at : ℕ) → read_as at (front (take (length s - at) (drop at s))) ≡ number_at s at
 unfolding number_at
 from-there s at = ap (λ (l : List ℕ). read_as at (front l)) (take_rest s at)
+
+-- What is lent from the place on, or the fault where that is past the end.
+module _ (s : List ℕ) (at : ℕ) where
+  pub there-is : (r : Option (Bor (List ℕ))) (f : Fault) (x : Bor (List ℕ)) → IsGetRangeResult s at (length s) r → ok_or r f ≡ Ok x
+      → read_as at (front x.now) ≡ number_at s at
+  there-is None f x h e = absurd (true≢false (ap is_err e))
+  there-is (Some y) f x h e =
+      ap (λ (o : Result (Bor (List ℕ)) Fault). read_as at (front (lent o))) (sym e) ∙ ap (λ (l : List ℕ). read_as at (front l)) h.0.2 ∙ from-there s at
+    where
+      lent : Result (Bor (List ℕ)) Fault → List ℕ
+      lent (Ok z) = z.now
+      lent (Err g) = []
+
+  pub past-the-end : (r : Option (Bor (List ℕ))) (f g : Fault) → IsGetRangeResult s at (length s) r → ok_or r f ≡ Err g
+      → (length s ≤ at) × (f ≡ g)
+  past-the-end None f g h e = (⊎_elim (λ past. omega (arith, past)) (λ over. omega (arith, over)) h.0, ap why e)
+    where
+      why : Result (Bor (List ℕ)) Fault → Fault
+      why (Ok z) = f
+      why (Err k) = k
+  past-the-end (Some y) f g h e = absurd (false≢true (ap is_err e))
 
 module _ {r : List ℕ} {value n : ℕ} (t : Reads r value n) (at : ℕ) where
   -- the bytes end inside the number or before it

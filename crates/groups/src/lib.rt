@@ -21,7 +21,7 @@ pub struct Fault {
     pub at: usize,
 }
 
-/// The room is too short for a number, and is as it came (6).
+/// The room is too short for what is to be written, and is as it came (6).
 #[derive(Clone, Copy, Debug, PartialEq, Eq)]
 pub struct TooShort;
 
@@ -60,11 +60,8 @@ pub fn read_number(s: &[u8], at: usize) -> Result<Read<u64>, Fault>
     ensures { result ≡ number_at s.now at }
 {
     let fault = Fault { at };
-    if s.len() < at {
-        return Err(fault);
-    }
     let mut value: u64 = 0;
-    let rest = &s[at..];
+    let rest = s.get(at..).ok_or(fault)?;
     for (n, byte) in rest.iter().enumerate() {
         let b = u64::from(*byte);
         let shift = 7 * n;
@@ -102,6 +99,7 @@ pub fn read_number(s: &[u8], at: usize) -> Result<Read<u64>, Fault>
 pub fn size(x: u64) -> usize
     ensures { (result ≡ length (groups x)) × (result ≤ 10) }
 {
+    // It counts groups, and no index of a list: the bits' logarithm, of which no lemma tells the groups, is no plainer.
     let mut left = x;
     let mut n: usize = 1;
     while 128 <= left {

@@ -58,7 +58,9 @@ pub fn too_short(n: usize, lengths: &[usize]) -> bool
 /// has the standardized value 3.25.
 //
 // Six slices, and no struct of them: a contract would tell what each holds in the end by its place in nested pairs, as
-// `columns.exit.1.1.0.now`, and by no name.
+// `columns.exit.1.1.0.now`, and by no name. How many points there are comes beside them, since the slices may not be cut: 7
+// zeroes whole slices, and entries past the last point are untouched. `z` and `has_z` are two slices, with +0.0 and a no where
+// there is no standardized value: that is the law of this project (request R-2).
 pub fn plot(
     cl: f64,
     n: usize,

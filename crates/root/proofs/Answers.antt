@@ -1,10 +1,9 @@
 -- What is allowed at each kind of bit pattern. Assumes nothing.
 use Rattle.std.proofs.Common.{◌≡◌, ℕ, zero, suc, ◌+◌, ◌*◌, ◌/◌, ◌%◌, ◌^◌, ◌<◌, ◌≤◌, Bool, true, false, cond, not, T, eqb, sym, refl, ap, subst, ⊎_elim, mul-pos, arith, pow_pos}
 use mathlib.Core.Bool.{false≢true}
-use lib.Ieee.{Float, nan, inf, fin, binary64, odd, of_bits, of_fields, is_nan, ne}
+use lib.Ieee.{Float, nan, inf, fin, binary64, odd, of_bits, of_fields, is_nan}
 use lib.Ieee.Exact.{HasValue, odd_sign}
 use lib.Ieee.Positive.{positive}
-use Rattle.floats.proofs.Nan.{is-nan}
 use Rattle.root.specs.Root.{IsRoot, Allowed, Answer, done, refusal}
 use Rattle.root.specs.Steps.{infinity}
 use Rattle.root.proofs.Patterns.{below-or-from, unsigned, signed, subnormal, normal, beyond}
@@ -72,9 +71,11 @@ refused-from b l n h = ⊎_elim
     (below-or-from b (2 ^ 63))
 
 -- ---- the code's test for a NaN, which differs from itself
-pub refused-nan : (x : Float) → ne x x ≡ true → Allowed x refusal
-unfolding Allowed
-refused-nan x h = rw (is-nan x h) refl
+pub refused-nan : (x : Float) → is_nan x ≡ true → Allowed x refusal
+unfolding Allowed is_nan
+refused-nan nan h = refl
+refused-nan (inf s) h = absurd (false≢true h)
+refused-nan (fin s m e) h = absurd (false≢true h)
 
 -- ---- an answer that is not the refusal has a number
 pub not-refused : (r : Float) → done r ≡ refusal → ⊥

@@ -71,7 +71,7 @@ fn place(b: u64) -> Placed
     let field = b >> 52;
     let t = b & 0xf_ffff_ffff_ffff;
     if field == 0 {
-        let up = u64::leading_zeros(t) - 11;
+        let up = t.leading_zeros() - 11;
         Placed {
             s: t << up,
             p: 53 - u64::from(up),
@@ -94,9 +94,7 @@ fn root_bits(b: u64) -> u64
     requires { (0 < b) × (b < infinity) }
     ensures { RootBits b result }
 {
-    let at = place(b);
-    let s = at.s;
-    let p = at.p;
+    let Placed { s, p } = place(b);
     let a = s << (1 - (p & 1));
     let m = (digits(a) + 1) >> 1;
     ((((p - 1) >> 1) + 485) << 52) + m
@@ -122,11 +120,10 @@ pub fn root(x: f64) -> Result<f64, NoRoot>
     ensures nearest { Allowed x (numbered result) }
     ensures is { result ≡ root_of x }
 {
-    // only a NaN differs from itself
-    if x != x {
+    if x.is_nan() {
         return Err(NoRoot);
     }
-    let b = f64::to_bits(x);
+    let b = x.to_bits();
     if b == 0 {
         return Ok(x);
     }

@@ -5,6 +5,9 @@ ghost use Rattle.std.specs.Prelude.{◌≡◌, leb};
 ghost use Rattle.stops.specs.Stops.{cut_at, since, stops_wrong, main_points};
 ghost use Rattle.stops.specs.Cuts.{by_stop, nearer};
 
+// Stops and whether they are of moving ranges come apart, as the definitions take them (`stops_wrong`, `cut_at`): a struct of
+// the two would have no call of its own but these, and is no plainer.
+
 // Whether a position is past the last of the main series.
 fn past_the_last(p: usize, moving: bool, points: usize) -> bool
     ensures { result ≡ leb (main_points moving points) p }

@@ -1,6 +1,6 @@
 -- `root::root` meets its contract. `Answers.antt` has what is allowed at each bit pattern, and `Function.antt` that it is what `root_of` says.
 -- Assumes nothing.
-use Rattle.std.proofs.Common.{◌≡◌, ℕ, T, sym, subst, arith}
+use Rattle.std.proofs.Common.{◌≡◌, ◌∙◌, ℕ, T, sym, subst, arith}
 use lib.Ieee.{Float, binary64, fits, of_bits, to_bits}
 use lib.Ieee.Bits.{of_bits-to_bits, to_bits-lt}
 use Rattle.std.specs.Prelude.{Result, Ok}
@@ -9,7 +9,6 @@ use Rattle.root.specs.Root.{Allowed, done, numbered, no_root, root_of}
 use Rattle.root.proofs.Function.{root_of-only}
 use Rattle.root.proofs.Patterns.{above_zero, not-nan}
 use Rattle.root.proofs.Answers.{allowed-root, allowed-zero, allowed-minus-zero, refused-from, refused-nan}
-use Rattle.floats.proofs.Nan.{no_nan}
 use Rattle.root.proofs.root.Goals.{Start}
 use Rattle.root.proofs.root.Goals as goal
 
@@ -36,14 +35,10 @@ by_zero x b t e p =
     let is : of_bits binary64 b ≡ x = subst (λ (n : ℕ). of_bits binary64 n ≡ x) e (of_bits-to_bits binary64 x t) in
     both x (Ok x) t (subst (λ (y : Float). Allowed y (done y)) is p)
 
-pub returns-then-x : goal.returns-then-x
-returns-then-x c =
-    let all = both c.args.x no_root (held (goal.at.returns-then-x c).Start) (refused-nan c.args.x c.if-x.true) in
+pub returns-then-is_nan : goal.returns-then-is_nan
+returns-then-is_nan c =
+    let all = both c.args.x no_root (held (goal.at.returns-then-is_nan c).Start) (refused-nan c.args.x (sym c.is_nan.ensures.value ∙ c.if-is_nan.true)) in
     record { nearest = all.0; is = all.1 }
-
-pub float_to_bits-b : goal.float_to_bits-b
-float_to_bits-b c =
-    no_nan c.args.x c.if-x.false
 
 pub returns-then-b-eq0 : goal.returns-then-b-eq0
 returns-then-b-eq0 c =

@@ -10,15 +10,15 @@ overflow_sub-a c =
 
 pub digits-requires : goal.digits-requires
 digits-requires c =
-    let at = c.place-at in
+    let at = c.place-s in
     (shifted_least at.result.s _ at.ensures.least at.ensures.most (omega arith), shifted_fits at.result.s _ at.ensures.most (omega arith))
 
 pub overflow_add-m : goal.overflow_add-m
 overflow_add-m c =
-    let at = c.place-at in
+    let at = c.place-s in
     omega (arith, root-fits _ c.digits.result (shifted_fits at.result.s _ at.ensures.most (omega arith)) c.digits.ensures.0)
 
 pub returns : goal.returns
 returns c =
-    let at = c.place-at in
+    let at = c.place-s in
     finished c.args.b at.result.s at.result.p c.digits.result at.ensures c.digits.ensures

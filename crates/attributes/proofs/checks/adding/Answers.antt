@@ -17,14 +17,14 @@ returns-in_err-sample c =
     let is = c.in_err-sample.was in
     rw (p.1, p.2) (sym (ap tested is) ∙ sym (passed _ _ _ _ c.if-wrong.false ∙ refused _ _ _ _ (own-refused is)))
 
-pub returns-then-count-ge4096 : goal.returns-then-count-ge4096
-returns-then-count-ge4096 c =
-    sym (passed _ _ _ _ c.if-wrong.false ∙ passed _ _ _ _ (own-passed c.in_ok-sample.was) ∙ refused _ _ _ _ (le-leb _ _ c.if-count-ge4096.true))
+pub returns-then-count-ge-ROOM : goal.returns-then-count-ge-ROOM
+returns-then-count-ge-ROOM c =
+    sym (passed _ _ _ _ c.if-wrong.false ∙ passed _ _ _ _ (own-passed c.in_ok-sample.was) ∙ refused _ _ _ _ (le-leb _ _ c.if-count-ge-ROOM.true))
 
 pub returns-then-counts-count : goal.returns-then-counts-count
 returns-then-counts-count c =
-    sym (passed _ _ _ _ c.if-wrong.false ∙ passed _ _ _ _ (own-passed c.in_ok-sample.was) ∙ passed _ _ _ _ (lt-leb _ _ c.if-count-ge4096.false) ∙ refused _ _ _ _ c.if-counts-count.true)
+    sym (passed _ _ _ _ c.if-wrong.false ∙ passed _ _ _ _ (own-passed c.in_ok-sample.was) ∙ passed _ _ _ _ (lt-leb _ _ c.if-count-ge-ROOM.false) ∙ refused _ _ _ _ c.if-counts-count.true)
 
 pub returns : goal.returns
 returns c =
-    sym (passed _ _ _ _ c.if-wrong.false ∙ passed _ _ _ _ (own-passed c.in_ok-sample.was) ∙ passed _ _ _ _ (lt-leb _ _ c.if-count-ge4096.false) ∙ passed _ _ _ _ c.if-counts-count.false ∙ none-applies _)
+    sym (passed _ _ _ _ c.if-wrong.false ∙ passed _ _ _ _ (own-passed c.in_ok-sample.was) ∙ passed _ _ _ _ (lt-leb _ _ c.if-count-ge-ROOM.false) ∙ passed _ _ _ _ c.if-counts-count.false ∙ none-applies _)
