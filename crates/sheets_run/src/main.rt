@@ -56,22 +56,18 @@ struct Case<'a> {
 }
 
 impl<'a> Case<'a> {
-    fn terms(self) -> Terms<'a> {
+    fn terms(self) -> Terms<'static> {
         let (width, lcl) = if 255 < self.set.mask {
             (OWN_WIDTHS, 23.5)
         } else {
             (SAME_WIDTHS, 22.0)
         };
-        Terms {
-            limits: Limits {
-                ucl: 28.0,
-                cl: 25.0,
-                lcl,
-            },
-            width,
-            stops: &[],
-            moving: false,
-        }
+        let limits = Limits {
+            ucl: 28.0,
+            cl: 25.0,
+            lcl,
+        };
+        Terms::alone(limits, width)
     }
 
     fn check(self, sheet: &[u8]) -> Result<(), Fault> {
