@@ -31,6 +31,14 @@ pub enum Centre {
     Given(f64),
 }
 
+/// What the size of a sample may be: u64, how many parcels were inspected, of a P chart, or f64, units, of a U chart. No other type
+/// can be one, since what a chart asks of a size is within this crate.
+pub trait SampleSize: Size {}
+
+impl SampleSize for u64 {}
+
+impl SampleSize for f64 {}
+
 /// A chart, whose samples have sizes of the type S. They stand in two slices that the caller lends to each call: `counts`, how many
 /// were damaged, and `sizes`.
 ///

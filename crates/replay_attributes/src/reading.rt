@@ -1,7 +1,7 @@
 // What stands before the answer of an attribute case (oracle/FORMAT.md).
 ghost use Rattle.std.specs.Prelude.{◌≤◌, IfOk};
 
-use attributes::{Centre, Chart, Refusal, Size};
+use attributes::{Centre, Chart, Refusal, SampleSize};
 use lists::{Fault, Item, Listed, Read};
 use std::marker::PhantomData;
 
@@ -12,7 +12,7 @@ pub const LONGEST_SLICE: usize = 4100;
 pub const LEAST: f64 = 5.0e-324;
 
 /// A sample's size, which stands in a list as a number.
-pub trait Stored: Size + Listed {
+pub trait Stored: SampleSize + Listed {
     /// The size that stands as this number.
     fn of(number: u64) -> Self;
 }
