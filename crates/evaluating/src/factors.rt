@@ -76,7 +76,7 @@ const FACTORS: [[f64; 24]; 8] = [
 ];
 
 impl Factor {
-    // Its row.
+    // Its row: a place in the table, which has no other `From`.
     fn row(self) -> usize
         ensures { result ≡ row_of self }
     {

@@ -49,7 +49,7 @@ pub struct Lane {
     pub seen: u16,
 }
 
-// A history with one value more: the bits move up by one, and the oldest falls off.
+// A history with one value more: the bits move up by one, and the oldest falls off. The cast is as in `reading`.
 fn push(h: u16, b: bool) -> u16
     ensures { result ≡ pushed b h }
 {

@@ -62,7 +62,8 @@ fn by_turns(up: u16, down: u16) -> bool
     ((up & 0x1555) | (down & 0x0aaa) == 0x1fff) | ((down & 0x1555) | (up & 0x0aaa) == 0x1fff)
 }
 
-// The number of the tests that stand, from what is said of each.
+// The number of the tests that stand, from what is said of each. By casts: the laws of bits (`from_bits`) speak of them, and by
+// `u16::from` it is no plainer.
 fn pack(
     beyond: bool,
     nine: bool,
@@ -109,5 +110,5 @@ pub fn marks(lane: Lane, set: u16) -> u16
     requires { lane.seen ≤ 15 }
     ensures { result ≡ marks_at set lane }
 {
-    set & (FITTING[lane.seen as usize] & standing(lane))
+    set & (FITTING[usize::from(lane.seen)] & standing(lane))
 }

@@ -27,7 +27,8 @@ fn limits(ucl: f64) -> Limits {
     }
 }
 
-// The next of a run of numbers below 2 ^ 32 that are hard to foresee, and what is taken of one.
+// The next of a run of numbers below 2 ^ 32 that are hard to foresee, and what is taken of one. `sheets_run` has it as well: no
+// crate beneath both is about such numbers, and one for a line is no plainer.
 fn next(x: u64) -> u64 {
     (x % 0x1_0000_0000 * 1_664_525 + 1_013_904_223) % 0x1_0000_0000
 }

@@ -19,7 +19,7 @@ pub enum Difference {
     Byte(Parting),
     /// The length of our answer, where it is not that of the stored one though each byte of the shorter is.
     Length(usize),
-    /// A call that ought to answer is refused, by 01's number.
+    /// A call that ought to answer is refused, by 01's number: of whichever crate the call is.
     Refused(u8),
     /// What ought to be refused is not, or by another number.
     Taken,

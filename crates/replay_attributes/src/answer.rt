@@ -1,4 +1,7 @@
 // The answer of an attribute case (oracle/FORMAT.md): ours in the bytes in which a list has it, held to a stored one.
+ghost use Rattle.std.specs.Prelude.{◌≡◌, IfOk};
+ghost use Rattle.lists.specs.Outcomes.{OnlyIf, stretch};
+
 use groups::TooShort;
 use lists::{Bytes, Case, Fault, Item};
 
@@ -9,7 +12,9 @@ pub fn settle<const N: usize>(
     numbers: usize,
     ours: &Bytes<N>,
     put: Result<(), TooShort>,
-) -> Result<Case, Fault> {
+) -> Result<Case, Fault>
+    ensures { IfOk result (λ case. OnlyIf (ours.now ≡ stretch at case.next list.now) case.outcome) }
+{
     let next = lists::pass_numbers(list, at, Item::Answer, numbers)?;
     let outcome = lists::hold(ours, put, lists::stored(list, at, next));
     Ok(Case { outcome, next })

@@ -13,7 +13,7 @@ use lists::{Case, Fault, Item};
 use reading::{LEAST, LONGEST_SLICE};
 use std::io;
 
-// The tags of its cases: adding to a P and to a U chart, evaluating a P and a U chart.
+// The tags of its cases: adding to a P and to a U chart, evaluating a P and a U chart; the numbers of the lists' form.
 const P_ADDING: u16 = 6;
 
 const U_ADDING: u16 = 7;

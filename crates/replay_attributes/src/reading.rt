@@ -116,7 +116,8 @@ pub fn read_size<S: Stored>(list: &[u8], at: usize) -> Result<Read<S>, Fault> {
     })
 }
 
-/// Reads as many sizes as `out` has room for, and gives the place just past them.
+/// Reads as many sizes as `out` has room for, and gives the place just past them. No `read_row`: units stand as any bits, and an f64
+/// of a row has to be finite.
 pub fn read_sizes<S: Stored>(list: &[u8], at: usize, out: &mut [S]) -> Result<usize, Fault> {
     let mut next = at;
     for size in out.iter_mut() {

@@ -15,7 +15,9 @@ use numbers::Numbered;
 // The bytes of the longest answer: 8,192 points of ten bytes with marks of two, and some numbers more.
 const LONGEST: usize = 100_000;
 
-// 01's numbers for bad stops and for a bad width mode, as a stored answer has them.
+// 01's numbers for too little, for bad stops and for a bad width mode, as a stored answer has them.
+const TOO_FEW: u16 = 8;
+
 const BAD_STOPS: u16 = 15;
 
 const BAD_WIDTH: u16 = 21;
@@ -106,7 +108,7 @@ pub fn hold(stored: &[u8], answers: Answers, series: Lent) -> Outcome
 }
 
 fn pass_figure(list: &[u8], at: usize) -> Result<usize, Fault> {
-    let answer = lists::read_answer(list, at, 8)?;
+    let answer = lists::read_answer(list, at, TOO_FEW)?;
     if answer.value != 0 {
         return Ok(answer.next);
     }

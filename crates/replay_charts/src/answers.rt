@@ -2,7 +2,8 @@
 use charts::{Chart, Refusal};
 use evaluating::Evaluation;
 
-/// What evaluating answers besides the slices, whether it says that no mark stands, and both figures.
+/// What evaluating answers besides the slices, whether it says that no mark stands (a fact of refusals too, so no value beside it),
+/// and both figures.
 #[derive(Clone, Copy)]
 pub struct Answers {
     pub evaluated: Result<Evaluation, Refusal>,

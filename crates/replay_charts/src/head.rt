@@ -11,7 +11,7 @@ pub const MOST_SAMPLES: usize = 4096;
 
 pub const MOST_VALUES: usize = 25;
 
-/// What chart it is, and the number of its samples.
+/// What chart it is, and the number of its samples. The kind is a number, as a record has it.
 #[derive(Clone, Copy)]
 pub struct Head {
     pub kind: u16,

@@ -24,7 +24,7 @@ use rules::SAME_WIDTHS;
 use sets::RuleSet;
 use std::io;
 
-// The tags of a chart case, of one with stops and of one in a width mode.
+// The tags of a chart case, of one with stops and of one in a width mode: the numbers of the lists' form (oracle/FORMAT.md).
 const CHART_CASE: u16 = 2;
 
 const STOPPED_CASE: u16 = 5;

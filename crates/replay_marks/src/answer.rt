@@ -10,6 +10,9 @@ use lists::{Bytes, Fault, Item, Outcome};
 // The bytes of the longest answer: a number of one byte and 4,096 marks of two.
 const LONGEST: usize = 8193;
 
+// 01's number for a bad width mode, as a stored answer has it.
+const BAD_WIDTH: u16 = 21;
+
 // Writes our answer.
 fn put(ours: &mut Bytes<LONGEST>, stopped: bool, number: u8, marks: &[u16]) -> Result<(), TooShort>
     ensures { OnOk result (ours.new ≡ ours.old ++ in_groups (answer_bytes stopped number marks.now)) }
@@ -35,7 +38,7 @@ pub fn pass(list: &[u8], at: usize, stopped: bool, n: usize) -> Result<usize, Fa
     if !stopped {
         return lists::pass_numbers(list, at, Item::Answer, n);
     }
-    let answer = lists::read_answer(list, at, 21)?;
+    let answer = lists::read_answer(list, at, BAD_WIDTH)?;
     if answer.value != 0 {
         return Ok(answer.next);
     }

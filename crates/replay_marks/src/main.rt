@@ -19,7 +19,7 @@ use rules::{Limits, MOST, SAME_WIDTHS, Terms};
 use sets::RuleSet;
 use std::io;
 
-// The tags of a marks case, of one with stops and of one in a width mode.
+// The tags of a marks case, of one with stops and of one in a width mode: the numbers of the lists' form (oracle/FORMAT.md).
 const MARKS_CASE: u16 = 1;
 
 const STOPPED_CASE: u16 = 4;
@@ -40,8 +40,8 @@ struct Ahead<'a> {
     stops: Option<&'a [usize]>,
 }
 
-// How the series of a case is marked. One with a list of stops (`stopped`), which may be empty as that of any other, has 01's
-// number in front of the marks.
+// How the series of a case is marked. One with a list of stops (`stopped`) has 01's number in front of the marks; the list may be
+// empty, as the terms of any other have it, so that they don't say it.
 #[derive(Clone, Copy)]
 struct Asked<'a> {
     stopped: bool,

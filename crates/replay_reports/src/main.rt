@@ -11,7 +11,7 @@ use lists::{Case, Difference, Fault, Item, Outcome};
 use numbers::Numbered;
 use std::io;
 
-// The tag of a report case.
+// The tag of a report case: its number in the lists' form (oracle/FORMAT.md).
 const REPORT_CASE: u16 = 3;
 
 // How many bytes more than the report a room for it has.

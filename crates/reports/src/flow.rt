@@ -71,7 +71,7 @@ fn read_head(s: &[u8]) -> Result<Read<Chart>, Refusal>
         return Err(Refusal::Size);
     };
     let set = read_number(s, size.next)?;
-    if set.value > RuleSet::ALL as u64 {
+    if set.value > u64::from(RuleSet::ALL) {
         return Err(Refusal::Set);
     }
     let count = read_number(s, set.next)?;

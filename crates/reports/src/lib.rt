@@ -22,7 +22,7 @@ use rules::SAME_WIDTHS;
 /// No report is longer: a room of so many bytes holds any.
 pub const LONGEST: usize = 405_704;
 
-// Writes the line of a refusal.
+// Writes the line of a refusal, of its own or of evaluating's: by the number, which the line shows.
 fn refuse(why: u8, out: &mut [u8]) -> Result<usize, TooShort>
     ensures answer { reported result ≡ room_for (r_line why) (length out.old) }
     ensures room { out.new ≡ at_front_if_room (r_line why) out.old }

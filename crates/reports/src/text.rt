@@ -89,7 +89,7 @@ fn put_line<const WRITE: bool>(out: &mut [u8], at: usize, letter: u8, words: &[W
     put_byte::<WRITE>(out, to, b'\n')
 }
 
-// The limits of a series, of which none is a NaN.
+// The limits of a series, of which none is a NaN. Series and refusals come by the numbers that the lines show.
 fn put_limits<const WRITE: bool>(out: &mut [u8], at: usize, series: u64, limits: Limits) -> usize
     requires { finite_limits limits ≡ true }
     ensures { Put WRITE (l_line series limits) at out.old result out.new }

@@ -408,7 +408,8 @@ impl Marker {
         }
     }
 
-    // The same for a set that has no test but the first, whose windows are single values: no codes are needed.
+    // The same for a set that has no test but the first, whose windows are single values: no codes are needed. The cast of a yes
+    // or no is what the law of the first test speaks of.
     fn mark_beyond(self, values: &[f64], out: &mut [u16])
         requires { (self.set < 2) × (length values.now ≤ length out.old) }
         ensures { out.new ≡ at_front (marks_by unbroken self.lines self.set values.now) out.old }

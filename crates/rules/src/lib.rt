@@ -47,6 +47,7 @@ pub struct Terms<'a> {
     /// reaches over one does not show its pattern.
     pub stops: &'a [usize],
     /// Whether the values are moving ranges. Only windows of length one hold a moving range that straddles a stop.
+    // A fact by itself: no other field is there or not by it.
     pub moving: bool,
 }
 

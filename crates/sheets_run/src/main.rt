@@ -155,7 +155,7 @@ impl<'a> Case<'a> {
     }
 }
 
-// The next of a run of numbers below 2 ^ 32 that are hard to foresee.
+// The next of a run of numbers below 2 ^ 32 that are hard to foresee; `histories_run` says why both have it.
 fn next(x: u64) -> u64 {
     (x % 0x1_0000_0000 * 1_664_525 + 1_013_904_223) % 0x1_0000_0000
 }

@@ -5,7 +5,7 @@ use Rattle.std.proofs.lemmas.Result.{err_from_is_err_and}
 use Rattle.std.specs.Prelude.{Err}
 use lib.ListN.{drop_of_length-le}
 use Rattle.groups.specs.Groups.{front, read_as, number_at}
-use Rattle.groups.proofs.ReadLoop.{reads-starts, reads-ends, reads-padding, reads-last, reads_on, reads-tenth, reads_over, past-the-end, there-is}
+use Rattle.groups.proofs.ReadLoop.{reads-ends, reads-padding, reads-last, reads_on, reads-tenth, reads_over, past-the-end, there-is}
 use Rattle.groups.proofs.read_number.Goals as goal
 use Rattle.groups.proofs.read_number.Goals.{else-b-eq0-via-then-b-eq0+else-shift-ne0, else-b-eq0-via-else-b-eq0}
 
@@ -17,10 +17,6 @@ returns-in_err-rest c =
     let p = err_from_is_err_and c.from_residual.result c.from_residual.ensures.1 in
     let past = past-the-end a.s.now a.at c.get.result _ _ c.get.ensures.lookup (sym c.ok_or.ensures.value ∙ c.in_err-rest.was) in
     rw (p.1, p.2) (ap Err (sym past.1) ∙ sym (ap (λ l. read_as a.at (front l)) (drop_of_length-le a.s.now past.0)))
-
-pub loop-n-init : goal.loop-n-init
-loop-n-init c =
-    reads-starts _
 
 pub returns-then-b-eq1 : goal.returns-then-b-eq1
 returns-then-b-eq1 c =

@@ -6,17 +6,9 @@ use Rattle.groups.specs.Groups.{groups}
 use Rattle.groups.proofs.Strings.{groups-one, groups-more, groups-some, groups-most}
 use Rattle.groups.proofs.size.Goals as goal
 
-pub loop-left-init : goal.loop-left-init
-loop-left-init c =
-    omega arith
-
 pub overflow_add-n : goal.overflow_add-n
 overflow_add-n c =
     omega (arith, groups-most c.args.x 9 (omega arith), groups-some c.loop-left.left)
-
-pub loop-left-smaller : goal.loop-left-smaller
-loop-left-smaller c =
-    omega arith
 
 pub loop-left-preserved : goal.loop-left-preserved
 loop-left-preserved c =

@@ -5,7 +5,7 @@ use lib.Seq.{length-take-le}
 use Rattle.laws.proofs.Rooms.{too_short, fits}
 use Rattle.groups.specs.Groups.{groups}
 use Rattle.groups.proofs.Strings.{groups-some}
-use Rattle.groups.proofs.WriteLoop.{group-fits, writes-on, last-fits, writes-ends}
+use Rattle.groups.proofs.WriteLoop.{writes-on, last-fits, writes-ends}
 use Rattle.groups.proofs.write_number.Goals as goal
 
 pub overflow_sub-last : goal.overflow_sub-last
@@ -17,10 +17,6 @@ returns-then-out-last c =
     let args = c.args in
     let all = too_short (groups args.x) args.out.now (omega (arith, groups-some args.x)) in
     record { answer = all.0; room = all.1 }
-
-pub overflow_cast-byte : goal.overflow_cast-byte
-overflow_cast-byte c =
-    record { fits = group-fits c.loop-byte.rest 128 (omega arith) }
 
 pub loop-byte-preserved : goal.loop-byte-preserved
 loop-byte-preserved c =

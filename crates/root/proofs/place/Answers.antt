@@ -17,18 +17,6 @@ pub overflow_sub-up : goal.overflow_sub-up
 overflow_sub-up c =
     omega (arith, zeros c)
 
-pub overflow_cast-result : goal.overflow_cast-result
-overflow_cast-result c =
-    omega (arith, zeros c)
-
-pub overflow_shl-result : goal.overflow_shl-result
-overflow_shl-result c =
-    omega (arith, zeros c)
-
-pub overflow_sub-result : goal.overflow_sub-result
-overflow_sub-result c =
-    omega (arith, zeros (goal.at.overflow_sub-result c).Then-field-eq0)
-
 pub returns-then-field-eq0 : goal.returns-then-field-eq0
 returns-then-field-eq0 c =
     rw c.from.ensures (places-subnormal c.args.b c.requires.0 (low (goal.at.returns-then-field-eq0 c).Then-field-eq0))

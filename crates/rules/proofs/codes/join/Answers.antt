@@ -8,14 +8,6 @@ pub loop-j-init : goal.loop-j-init
 loop-j-init c =
     adding-starts _ _ _
 
-pub bounds-c-j : goal.bounds-c-j
-bounds-c-j c =
-    omega arith
-
-pub bounds-c-j-in-loop-j : goal.bounds-c-j-in-loop-j
-bounds-c-j-in-loop-j c =
-    omega arith
-
 pub loop-j-preserved : goal.loop-j-preserved
 loop-j-preserved c =
     adding-one _ _ _ _ _ c.loop-j.invariant _ refl (omega arith) (omega arith)

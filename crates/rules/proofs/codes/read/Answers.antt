@@ -8,10 +8,6 @@ pub loop-i-init : goal.loop-i-init
 loop-i-init g c =
     tabling-starts _ _ _ c.requires.1
 
-pub standing_at-requires : goal.standing_at-requires
-standing_at-requires g c =
-    omega arith
-
 pub offset_bounds-out-i : goal.offset_bounds-out-i
 offset_bounds-out-i g c =
     omega (arith, tabling-room _ _ _ _ _ c.loop-i.invariant c.loop-i-test.true)

@@ -48,10 +48,6 @@ pub slice_bounds-block-start-in-loop-at : goal.slice_bounds-block-start-in-loop-
 slice_bounds-block-start-in-loop-at c =
     part-start _ _ _ _ _ c.loop-at.invariant 0 (omega arith)
 
-pub loop-at-smaller : goal.loop-at-smaller
-loop-at-smaller c =
-    omega arith
-
 pub returns : goal.returns
 returns c =
     tabling-ends _ _ _ _ _ c.loop-at.invariant (omega arith)
