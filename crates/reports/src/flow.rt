@@ -71,7 +71,7 @@ fn read_head(s: &[u8]) -> Result<Read<Chart>, Refusal>
         return Err(Refusal::Size);
     };
     let set = read_number(s, size.next)?;
-    if set.value > u64::from(RuleSet::ALL) {
+    if set.value > RuleSet::ALL as u64 {
         return Err(Refusal::Set);
     }
     let count = read_number(s, set.next)?;

@@ -4,4 +4,4 @@ use Rattle.histories.proofs.reading.marks.Goals as goal
 
 pub returns : goal.returns
 returns c =
-    let a = c.args in rw c.standing.ensures (marks-read a.set a.lane c.requires)
+    let a = c.args in rw c.standing.ensures (rw c.from.ensures (marks-read a.set a.lane c.requires))
