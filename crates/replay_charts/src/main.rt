@@ -256,7 +256,8 @@ fn replay_chart(list: &[u8], at: usize, ahead: Ahead, values: &mut [f64]) -> Res
     Ok(Case { outcome, next })
 }
 
-// Replays a case with stops from its count of them on, which stands at the place `at`.
+// Replays a case with stops from its count of them on, which stands at the place `at`. `replay_marks` has steps like this one and
+// the next: what stands ahead of the stops and behind them differs, and a step over both is no plainer.
 fn replay_stopped(list: &[u8], at: usize, width: u64, values: &mut [f64]) -> Result<Case, Fault> {
     let count = lists::read_number(list, at, Item::Stops)?;
     let length = lists::read_small(list, count.next, Item::Stops, 0, MOST_STOPS as u16)?;
