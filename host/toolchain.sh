@@ -4,7 +4,7 @@
 
 # Whether a file is there and nothing that it is made of has changed since.
 up_to_date() { # FILE
-    [ -f "$1" ] && [ -z "$(find crates crates.txt bench/calls.rattle bench/roots.proof -name out -prune -o -type f -newer "$1" -print)" ]
+    [ -f "$1" ] && [ -z "$(find crates crates.txt bench/calls.rattle -name out -prune -o -type f -newer "$1" -print)" ]
 }
 
 # The proved library, where it is not to be had elsewhere: rt makes it of the crate twin_c, and it is known as libtwin.a.
