@@ -120,22 +120,36 @@ module _ {S : Type 0} (k : Kind S) (c : Chart S) (counts : List ℕ) (sizes : Li
   unfolding wrong
   right-by = not-false _ (or_right (chart_wrong k c (length counts) (length sizes)) _ h)
 
-exact-front : (n : ℕ) (l : List ℕ) → n ≤ 4096 → n ≤ length l → SmallTo n l → Exact (total_of (take n l))
-exact-front n l few room each = total-exact (take n l) (omega (arith, length-take-le n l room, few)) (small-front n l room each)
+few-exact : (n : ℕ) (l : List ℕ) → n ≤ 4096 → n ≤ length l → Small (take n l) → Exact (total_of (take n l))
+few-exact n l few room small = total-exact (take n l) (omega (arith, length-take-le n l room, few)) small
 
-pub totals-exact-P : (c : PChart) (counts sizes : List ℕ) → wrong_p c counts sizes ≡ false
-    → Exact (total_of (take c.count counts)) × Exact (total_of (take c.count sizes))
-totals-exact-P c counts sizes h =
-    let x = held-by proportions c counts sizes h in
-    let right = right-by proportions c counts sizes h in (
-      exact-front c.count counts x.few x.in-counts (counts-fit-P c.count counts sizes right),
-      exact-front c.count sizes x.few x.in-sizes (λ i k. inspected _ (sizes-fit-P c.count counts sizes right i k)),
-    )
+module _ (c : PChart) (counts sizes : List ℕ) (h : wrong_p c counts sizes ≡ false) where
+  pub held-P : Held c.count (length counts) (length sizes)
+  held-P = held-by proportions c counts sizes h
 
-pub total-exact-U : (c : UChart) (counts : List ℕ) (sizes : List Float) → wrong_u c counts sizes ≡ false → Exact (total_of (take c.count counts))
-total-exact-U c counts sizes h =
-    let x = held-by rates c counts sizes h in
-    exact-front c.count counts x.few x.in-counts (counts-fit-U c.count counts sizes (right-by rates c counts sizes h))
+  pub small-counts-P : Small (take c.count counts)
+  small-counts-P = small-front c.count counts held-P.in-counts (counts-fit-P c.count counts sizes (right-by proportions c counts sizes h))
+
+  pub small-sizes-P : Small (take c.count sizes)
+  small-sizes-P =
+      let fit = sizes-fit-P c.count counts sizes (right-by proportions c counts sizes h) in
+      small-front c.count sizes held-P.in-sizes (λ i k. inspected _ (fit i k))
+
+  pub totals-exact-P : Exact (total_of (take c.count counts)) × Exact (total_of (take c.count sizes))
+  totals-exact-P = (
+    few-exact c.count counts held-P.few held-P.in-counts small-counts-P,
+    few-exact c.count sizes held-P.few held-P.in-sizes small-sizes-P,
+  )
+
+module _ (c : UChart) (counts : List ℕ) (sizes : List Float) (h : wrong_u c counts sizes ≡ false) where
+  pub held-U : Held c.count (length counts) (length sizes)
+  held-U = held-by rates c counts sizes h
+
+  pub small-counts-U : Small (take c.count counts)
+  small-counts-U = small-front c.count counts held-U.in-counts (counts-fit-U c.count counts sizes (right-by rates c counts sizes h))
+
+  pub total-exact-U : Exact (total_of (take c.count counts))
+  total-exact-U = few-exact c.count counts held-U.few held-U.in-counts small-counts-U
 
 -- ---- evaluating: what 14, 8 and 6 leave
 

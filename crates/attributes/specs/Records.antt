@@ -1,7 +1,9 @@
 -- The records of the P and the U chart, and the calls that make one and add a sample (02, R-2). Definitions only.
-use Rattle.std.specs.Prelude.{ℕ, ◌+◌, Bool, false, cond, not, ◌||◌, List, [], ◌∷◌, ◌++◌, ◌==◌, nat_le, nat_lt, slice_set, Float, Result}
+use Rattle.std.specs.Prelude.{◌≡◌, ℕ, ◌+◌, Bool, false, cond, not, ◌||◌, List, [], ◌∷◌, ◌++◌, ◌==◌, nat_le, nat_lt, slice_set, Float, Result}
 use Rattle.laws.specs.Refusals.{first_of, each}
 use Rattle.numbers.specs.Numbers.{answered}
+use Rattle.points.specs.Plotting as points
+use Rattle.points.specs.declared.Refusal as plot_refused
 use Rattle.attributes.specs.declared.Refusal.{Refusal}
 use Rattle.attributes.specs.declared.Refusal.TheVariants as refusing
 use Rattle.attributes.specs.declared.Centre.{Centre}
@@ -28,6 +30,10 @@ number refusing.NoSize = 17
 number refusing.Damaged = 18
 number refusing.Units = 19
 number refusing.Centre = 20
+
+-- a refusal of plotting keeps its number
+abbrev pub plotting : plot_refused.Refusal → Refusal → Type 0
+plotting why said = number said ≡ points.number why
 
 -- "A refusal gives back the record unchanged" (01, Order)
 abbrev pub changed : {S : Type 0} → Chart S → Result (Chart S) Refusal → ℕ × Chart S

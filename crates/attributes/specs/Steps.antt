@@ -4,8 +4,6 @@ use Rattle.std.specs.Float.{nan, binary64}
 use Rattle.std.specs.Float.Ieee.{div}
 use Rattle.laws.specs.Lists.{tabulate}
 use Rattle.numbers.specs.Numbers.{numbered}
-use Rattle.points.specs.Plotting as points
-use Rattle.points.specs.declared.Refusal as plot_refused
 use Rattle.attributes.specs.declared.Refusal.{Refusal}
 use Rattle.attributes.specs.declared.Chart.{Chart}
 use Rattle.attributes.specs.Kinds.{Kind}
@@ -15,10 +13,6 @@ use Rattle.attributes.specs.Evaluating.{sigma_of}
 -- the number of what tests found
 abbrev pub tested : Result (Unit {0}) Refusal → ℕ
 tested = numbered number
-
--- a refusal of plotting keeps its number
-abbrev pub plotting : plot_refused.Refusal → Refusal → Type 0
-plotting why said = number said ≡ points.number why
 
 -- adding, where it is known what the sample's own tests found
 abbrev pub adding : Bool → Result (Unit {0}) Refusal → ℕ → ℕ → ℕ → List (Bool × ℕ)

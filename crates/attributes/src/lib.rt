@@ -13,12 +13,12 @@ ghost use Rattle.laws.specs.Front.{lent_after};
 ghost use Rattle.floats.specs.Values.{plus_zero};
 ghost use Rattle.points.specs.Points.{uppers, lowers, outs, zs, has_zs};
 ghost use Rattle.points.specs.Plotting.{any_shorter};
-ghost use Rattle.attributes.specs.Records.{number, changed, new_chart, with_centre, add, chart_wrong, centre_wrong, kept_after};
+ghost use Rattle.attributes.specs.Records.{number, plotting, changed, new_chart, with_centre, add, chart_wrong, centre_wrong, kept_after};
 ghost use Rattle.attributes.specs.Evaluating.{evaluated, wrong, chart_centre, chart_plot, evaluate};
 ghost use Rattle.attributes.specs.Steps.{Fine};
 
 use numbers::Numbered;
-use size::Size;
+use size::{Ours, Size};
 use std::marker::PhantomData;
 
 /// The centre of a chart. It has the shape of an `Option<f64>`, and is a type of its own, since its names say more
@@ -110,6 +110,20 @@ impl Numbered for Refusal {
     }
 }
 
+impl From<points::Refusal> for Refusal {
+    ghost from_gives = { plotting };
+
+    /// A refusal of plotting, with its number.
+    ///
+    /// `Refusal::from(points::Refusal::Overflow)` is `Refusal::Overflow`.
+    fn from(why: points::Refusal) -> Refusal {
+        match why {
+            points::Refusal::TooShort => Refusal::TooShort,
+            points::Refusal::Overflow => Refusal::Overflow,
+        }
+    }
+}
+
 impl<S: Size> Chart<S> {
     /// A chart with no samples, whose centre is computed from those that it gets.
     ///
@@ -135,7 +149,7 @@ impl<S: Size> Chart<S> {
     pub fn with_centre(centre: f64) -> Result<Chart<S>, Refusal>
         ensures { changed new_chart result ≡ with_centre S.kind centre }
     {
-        if !S::allows(centre) {
+        if !S::allows(Ours, centre) {
             return Err(Refusal::Centre);
         }
         Ok(Chart {
@@ -151,7 +165,7 @@ impl<S: Size> Chart<S> {
     {
         match self.centre {
             Centre::Computed => false,
-            Centre::Given(x) => !S::allows(x),
+            Centre::Given(x) => !S::allows(Ours, x),
         }
     }
 
@@ -170,7 +184,7 @@ impl<S: Size> Chart<S> {
         if self.record_wrong(counts.len(), sizes.len()) {
             return true;
         }
-        !S::are_right(self.count, counts, sizes)
+        !S::are_right(Ours, self.count, counts, sizes)
     }
 
     // The centre, computed or given.
@@ -183,7 +197,7 @@ impl<S: Size> Chart<S> {
             Centre::Computed => {
                 let n = self.count;
                 let damaged = totals::total(&counts[..n]);
-                std::num::nearest_u64_to_f64(damaged) / S::total(&sizes[..n])
+                std::num::nearest_u64_to_f64(damaged) / S::total(Ours, &sizes[..n])
             }
         }
     }
@@ -211,7 +225,7 @@ impl<S: Size> Chart<S> {
         ensures sizes { sizes.new ≡ kept_after (changed self result).0 self.count size sizes.old }
     {
         let wrong = self.record_wrong(counts.len(), sizes.len());
-        let sample = S::sample(damaged, size);
+        let sample = S::sample(Ours, damaged, size);
         checks::adding(wrong, sample, self.count, counts.len(), sizes.len())?;
         let at = self.count;
         counts[at] = damaged;
@@ -275,8 +289,8 @@ impl<S: Size> Chart<S> {
         let short = points::too_short(n, &lengths);
         checks::check(wrong, n, short)?;
         let cl = self.centre_of(counts, sizes);
-        S::fill(n, sizes, ucl);
-        let variance = S::variance(cl);
+        S::fill(Ours, n, sizes, ucl);
+        let variance = S::variance(Ours, cl);
         plots::evaluate(cl, variance, n, counts, values, ucl, lcl, out, z, has_z)
     }
 }

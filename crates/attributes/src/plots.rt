@@ -6,20 +6,9 @@ ghost use Rattle.points.specs.Points.{sound, uppers, lowers, outs, zs, has_zs};
 ghost use Rattle.points.specs.Plotting.{plotted};
 ghost use Rattle.points.specs.Steps.{settled};
 ghost use Rattle.attributes.specs.Evaluating.{evaluated, answer_for, values_of, plot_of};
-ghost use Rattle.attributes.specs.Steps.{plotting, variances_of, roots_of, Small, SmallTo};
+ghost use Rattle.attributes.specs.Steps.{variances_of, roots_of, Small, SmallTo};
 
 use super::Refusal;
-
-impl From<points::Refusal> for Refusal {
-    ghost from_gives = { plotting };
-
-    fn from(why: points::Refusal) -> Refusal {
-        match why {
-            points::Refusal::TooShort => Refusal::TooShort,
-            points::Refusal::Overflow => Refusal::Overflow,
-        }
-    }
-}
 
 // Counts that 14 does not refuse fit a u32, whose cast takes least. By the index: a zip of three slices is no plainer.
 fn fill_values(counts: &[u64], sizes: &[f64], out: &mut [f64])

@@ -4,7 +4,7 @@ ghost use Rattle.attributes.specs.Kinds.{sample_p, proportions};
 ghost use Rattle.attributes.specs.Evaluating.{right};
 
 use super::checks::MOST;
-use super::{Refusal, Size, totals};
+use super::{Ours, Refusal, Size, totals};
 
 // Has a bit above the lowest 32 exactly where one of the three applies: a count that is too large has one, and so has a
 // difference that wraps around below zero. So samples can be judged by the bits of all of them together.
@@ -19,12 +19,12 @@ fn excess(damaged: u64, inspected: u64) -> u64
 impl Size for u64 {
     ghost kind = { proportions };
 
-    fn allows(centre: f64) -> bool {
+    fn allows(_ours: Ours, centre: f64) -> bool {
         floats::is_finite(centre) & (0.0 < centre) & (centre < 1.0)
     }
 
     // 16, 17 and 18.
-    fn sample(damaged: u64, inspected: u64) -> Result<(), Refusal> {
+    fn sample(_ours: Ours, damaged: u64, inspected: u64) -> Result<(), Refusal> {
         if (MOST < damaged) | (MOST < inspected) {
             return Err(Refusal::Count);
         }
@@ -37,7 +37,7 @@ impl Size for u64 {
         Ok(())
     }
 
-    fn are_right(count: usize, counts: &[u64], sizes: &[u64]) -> bool {
+    fn are_right(_ours: Ours, count: usize, counts: &[u64], sizes: &[u64]) -> bool {
         let mut bits: u64 = 0;
         for i in 0..count {
             bits |= excess(counts[i], sizes[i]);
@@ -45,16 +45,16 @@ impl Size for u64 {
         bits <= MOST
     }
 
-    fn total(sizes: &[u64]) -> f64 {
+    fn total(_ours: Ours, sizes: &[u64]) -> f64 {
         std::num::nearest_u64_to_f64(totals::total(sizes))
     }
 
-    fn variance(cl: f64) -> f64 {
+    fn variance(_ours: Ours, cl: f64) -> f64 {
         cl * (1.0 - cl)
     }
 
     // Sizes that 14 does not refuse fit a u32, whose cast takes least.
-    fn fill(n: usize, sizes: &[u64], out: &mut [f64]) {
+    fn fill(_ours: Ours, n: usize, sizes: &[u64], out: &mut [f64]) {
         for i in 0..n {
             out[i] = f64::from(sizes[i] as u32);
         }

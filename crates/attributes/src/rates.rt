@@ -4,7 +4,7 @@ ghost use Rattle.attributes.specs.Kinds.{rate_allowed, sample_u, rates};
 ghost use Rattle.attributes.specs.Evaluating.{right};
 
 use super::checks::MOST;
-use super::{Refusal, Size};
+use super::{Ours, Refusal, Size};
 
 // Whether a rate, or units, are finite and above zero. Two comparisons, so that a loop can take several units at a time.
 fn allowed(u: f64) -> bool
@@ -23,12 +23,12 @@ fn sample_right(damaged: u64, units: f64) -> bool
 impl Size for f64 {
     ghost kind = { rates };
 
-    fn allows(centre: f64) -> bool {
+    fn allows(_ours: Ours, centre: f64) -> bool {
         allowed(centre)
     }
 
     // 16 and 19.
-    fn sample(damaged: u64, units: f64) -> Result<(), Refusal> {
+    fn sample(_ours: Ours, damaged: u64, units: f64) -> Result<(), Refusal> {
         if MOST < damaged {
             return Err(Refusal::Count);
         }
@@ -38,7 +38,7 @@ impl Size for f64 {
         Ok(())
     }
 
-    fn are_right(count: usize, counts: &[u64], sizes: &[f64]) -> bool {
+    fn are_right(_ours: Ours, count: usize, counts: &[u64], sizes: &[f64]) -> bool {
         let mut all = true;
         for i in 0..count {
             all = all & sample_right(counts[i], sizes[i]);
@@ -46,16 +46,16 @@ impl Size for f64 {
         all
     }
 
-    fn total(units: &[f64]) -> f64 {
+    fn total(_ours: Ours, units: &[f64]) -> f64 {
         arith::sum_of(units)
     }
 
-    fn variance(cl: f64) -> f64 {
+    fn variance(_ours: Ours, cl: f64) -> f64 {
         cl
     }
 
     // The sizes as they are, where the points' sigmas are to take their place.
-    fn fill(n: usize, sizes: &[f64], out: &mut [f64]) {
+    fn fill(_ours: Ours, n: usize, sizes: &[f64], out: &mut [f64]) {
         out[..n].copy_from_slice(&sizes[..n]);
     }
 }

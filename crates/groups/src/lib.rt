@@ -1,9 +1,9 @@
 // Numbers in groups of seven bits: low group first, top bit set on all but the last group, shortest form.
 #![tactic(auto)]
 
-ghost use Rattle.std.specs.Prelude.{◌≡◌, ◌≤◌, length};
+ghost use Rattle.std.specs.Prelude.{◌≡◌, ◌≤◌, length, Err};
 ghost use Rattle.laws.specs.Front.{at_front_if_room, room_for};
-ghost use Rattle.groups.specs.Groups.{groups, number_at, written};
+ghost use Rattle.groups.specs.Groups.{groups, number_at, found, written};
 
 use numbers::Numbered;
 
@@ -26,7 +26,7 @@ pub struct Fault {
 pub struct TooShort;
 
 impl Numbered for Fault {
-    ghost number = { λ _. 9 };
+    ghost number = { λ fault. (found (Err fault)).0 };
 
     /// 01's number of the refusal.
     fn number(&self) -> u8 {
@@ -35,7 +35,7 @@ impl Numbered for Fault {
 }
 
 impl Numbered for TooShort {
-    ghost number = { λ _. 6 };
+    ghost number = { λ short. (written (Err short)).0 };
 
     /// 01's number of the refusal.
     fn number(&self) -> u8 {

@@ -28,6 +28,9 @@ pub const MOST_BYTES: usize = 400_000;
 /// Room for a list, and one byte more, so that a longer one is seen.
 pub const ROOM: usize = MOST_BYTES + 1;
 
+/// The largest rule set.
+pub const ALL_TESTS: u16 = 511;
+
 /// What a number of a list stands for.
 #[derive(Clone, Copy, Debug, PartialEq, Eq)]
 pub enum Item {

@@ -1,6 +1,7 @@
 // How a program goes through a list case by case, and what it says of the whole.
-ghost use Rattle.std.specs.Prelude.{◌≡◌, ◌+◌, ◌<◌, ◌^◌, IfOk};
-ghost use Rattle.lists.specs.Runs.{run_past};
+ghost use Rattle.std.specs.Prelude.{◌≡◌, ◌+◌, ◌<◌, ◌^◌};
+ghost use Rattle.lists.specs.Runs.{Past};
+ghost use Rattle.lists.specs.declared.run.Ended.TheVariants.{NoList, Unwritten};
 
 use crate::outcome::{Outcome, tell};
 use crate::{Fault, closing, opening};
@@ -30,22 +31,27 @@ enum Ended {
 }
 
 impl From<Fault> for Ended {
+    ghost from_gives = { λ fault ended. ended ≡ NoList fault };
+
     fn from(fault: Fault) -> Ended {
         Ended::NoList(fault)
     }
 }
 
 impl From<io::Error> for Ended {
+    ghost from_gives = { λ error ended. ended ≡ Unwritten error };
+
     fn from(error: io::Error) -> Ended {
         Ended::Unwritten(error)
     }
 }
 
-// The run past case k, which is told where it differs. Fails only where that cannot be told.
-fn past<P: Print>(rt: &P, k: u64, run: Run, case: Case) -> io::Result<Run>
+// The run past case k, which is told where it differs, or its end at a fault. Fails besides only where a case cannot be told.
+fn past<P: Print>(rt: &P, k: u64, run: Run, replayed: Result<Case, Fault>) -> Result<Run, Ended>
     requires { run.differ + 1 < 2 ^ 64 }
-    ensures { IfOk result (λ on. on ≡ run_past run case) }
+    ensures { Past run replayed result }
 {
+    let case = replayed?;
     let differs = tell(rt, k, case.outcome)?;
     Ok(Run {
         at: case.next,
@@ -67,7 +73,7 @@ fn go<P: Print, F: FnMut(usize) -> Result<Case, Fault>>(
         differ: 0,
     };
     for k in 0..cases.value {
-        run = past(rt, k, run, replay_case(run.at)?)?;
+        run = past(rt, k, run, replay_case(run.at))?;
     }
     closing(list, run.at)?;
     println!(rt; "{} cases, {} differ", cases.value, run.differ)?;

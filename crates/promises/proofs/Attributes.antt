@@ -18,9 +18,11 @@ use Rattle.attributes.specs.declared.Chart.{Chart}
 use Rattle.attributes.specs.declared.Refusal.{Refusal}
 use Rattle.attributes.specs.Records.{new_chart, kept_after}
 use Rattle.attributes.specs.Evaluating.{chart_plot}
-use Rattle.attributes.proofs.Answers.{changed-one, evaluated-one}
+use Rattle.attributes.proofs.Answers.{number-one, changed-one, evaluated-one}
 use Rattle.attributes.proofs.RefusalNumbered.number.Reads as number
 use Rattle.attributes.proofs.RefusalNumbered.number.Kinds as number-kinds
+use Rattle.attributes.proofs.RefusalFromPointsRefusal.from.Reads as from
+use Rattle.attributes.proofs.RefusalFromPointsRefusal.from.Kinds as from-kinds
 use Rattle.attributes.proofs.Chart.new.Reads as new
 use Rattle.attributes.proofs.Chart.new.Kinds as new-kinds
 use Rattle.attributes.proofs.Chart.with_centre.Reads as with-centre
@@ -34,6 +36,9 @@ use Rattle.promises.proofs.Coincide.{Coincide}
 
 refusal-number-one : Coincide 1 number-kinds.ps number-kinds.r number.Post (λ κs x s. x)
 refusal-number-one κs a x y s t p q = p ∙ sym q
+
+from-one : Coincide 0 from-kinds.ps from-kinds.r from.Post (λ κs x s. x)
+from-one κs a x y s t p q = number-one x y (p ∙ sym q)
 
 -- a type of sizes, with what the trait of sizes says of it
 record Sized : Type 2 where

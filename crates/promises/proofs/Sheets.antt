@@ -11,6 +11,10 @@ use Rattle.sheets.proofs.write.Reads as write
 use Rattle.sheets.proofs.write.Kinds as write-kinds
 use Rattle.sheets.proofs.FaultNumbered.number.Reads as fault-number
 use Rattle.sheets.proofs.FaultNumbered.number.Kinds as fault-number-kinds
+use Rattle.sheets.proofs.FaultFromRefusal.from.Reads as from-refusal
+use Rattle.sheets.proofs.FaultFromRefusal.from.Kinds as from-refusal-kinds
+use Rattle.sheets.proofs.FaultFromGroupsFault.from.Reads as from-groups
+use Rattle.sheets.proofs.FaultFromGroupsFault.from.Kinds as from-groups-kinds
 use Rattle.promises.proofs.Coincide.{Coincide}
 
 check-one : Coincide 3 check-kinds.ps check-kinds.r check.Post (λ κs x s. x)
@@ -22,3 +26,9 @@ write-one κs a x y s t p q =
 
 fault-number-one : Coincide 1 fault-number-kinds.ps fault-number-kinds.r fault-number.Post (λ κs x s. x)
 fault-number-one κs a x y s t p q = p ∙ sym q
+
+from-refusal-one : Coincide 0 from-refusal-kinds.ps from-refusal-kinds.r from-refusal.Post (λ κs x s. x)
+from-refusal-one κs a x y s t p q = p ∙ sym q
+
+from-groups-one : Coincide 0 from-groups-kinds.ps from-groups-kinds.r from-groups.Post (λ κs x s. x)
+from-groups-one κs a x y s t p q = p ∙ sym q

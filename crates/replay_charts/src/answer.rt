@@ -2,7 +2,6 @@
 ghost use Rattle.std.specs.Prelude.{◌≤◌, ◌≡◌, ◌++◌, OnOk};
 ghost use Rattle.lists.specs.Ours.{in_groups};
 ghost use Rattle.lists.specs.Outcomes.{OnlyIf};
-ghost use Rattle.charts.specs.Records.{number};
 ghost use Rattle.replay_charts.specs.Answer.{figure_of, figures_of, series_of, counts_of, found_of, apart, answer_of, rows};
 
 use crate::answers::{Answers, Lent};
@@ -22,11 +21,12 @@ const BAD_STOPS: u16 = 15;
 
 const BAD_WIDTH: u16 = 21;
 
-/// Whether evaluating alone refuses so: the figures take neither stops nor a width mode, and their answers follow it.
-pub fn apart(why: Refusal) -> bool
-    ensures { result ≡ apart (number why) }
+/// Whether evaluating alone refuses by the number: the figures take neither stops nor a width mode, and their answers follow it. It
+/// is told the number, since a stored answer has nothing else.
+pub fn apart(number: u16) -> bool
+    ensures { result ≡ apart number }
 {
-    matches!(why, Refusal::Stops | Refusal::WidthMode)
+    (number == BAD_STOPS) | (number == BAD_WIDTH)
 }
 
 // A figure: its answer, and the figure where there is one.
@@ -93,7 +93,7 @@ fn put(ours: &mut Bytes<LONGEST>, answers: Answers, series: Lent) -> Result<(), 
     ours.put(u64::from(answers.evaluated.number()))?;
     match answers.evaluated {
         Ok(found) => put_found(ours, found, answers, series),
-        Err(why) if apart(why) => put_figures(ours, answers),
+        Err(why) if apart(u16::from(why.number())) => put_figures(ours, answers),
         Err(_) => Ok(()),
     }
 }
@@ -125,7 +125,7 @@ pub fn pass(list: &[u8], at: usize, points: usize) -> Result<usize, Fault>
     requires { points ≤ 8192 }
 {
     let answer = lists::read_answer(list, at, BAD_WIDTH)?;
-    if (answer.value == BAD_STOPS) | (answer.value == BAD_WIDTH) {
+    if apart(answer.value) {
         return pass_figures(list, answer.next);
     }
     if answer.value != 0 {

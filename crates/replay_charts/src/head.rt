@@ -4,7 +4,6 @@ ghost use Rattle.replay_charts.specs.Head.{size_from, head_from};
 
 use charts::{INDIVIDUALS, X_BAR_S};
 use lists::{Fault, Item, Read};
-use sets::RuleSet;
 
 /// The most samples that a case has, and the most values of one of them.
 pub const MOST_SAMPLES: usize = 4096;
@@ -39,7 +38,7 @@ pub fn read_head(list: &[u8], at: usize) -> Result<Read<Head>, Fault>
 {
     let kind = lists::read_small(list, at, Item::Kind, INDIVIDUALS as u16, X_BAR_S as u16)?;
     let size = read_size(list, kind.next, kind.value)?;
-    let set = lists::read_small(list, size.next, Item::Set, 0, RuleSet::ALL)?;
+    let set = lists::read_small(list, size.next, Item::Set, 0, lists::ALL_TESTS)?;
     let count = lists::read_small(list, set.next, Item::Samples, 0, MOST_SAMPLES as u16)?;
     let value = Head {
         kind: kind.value,

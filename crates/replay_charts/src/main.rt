@@ -183,7 +183,8 @@ fn refused_alike(ours: Answers) -> bool
     // by their numbers: "refused by the same number" (oracle/FORMAT.md)
     let number = why.number();
     let alike = (ours.sigma_hat.number() == number) & (ours.sigma_hat_df.number() == number);
-    (answer::apart(why) | alike) & (ours.none_stands == matches!(why, Refusal::TooFew))
+    (answer::apart(u16::from(number)) | alike)
+        & (ours.none_stands == matches!(why, Refusal::TooFew))
 }
 
 // Holds all that a chart answers and leaves.

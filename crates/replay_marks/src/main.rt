@@ -15,7 +15,7 @@ ghost use Rattle.replay_marks.specs.Held.{Held, SomeHeld, written};
 
 use lists::{Case, Difference, Fault, Form, Item, Outcome};
 use numbers::Numbered;
-use rules::{Limits, MOST, SAME_WIDTHS, Terms};
+use rules::{Limits, SAME_WIDTHS, Terms};
 use sets::RuleSet;
 use std::io;
 
@@ -25,6 +25,9 @@ const MARKS_CASE: u16 = 1;
 const STOPPED_CASE: u16 = 4;
 
 const MODED_CASE: u16 = 10;
+
+// The most values that a case has, and the most stops.
+const MOST: usize = 4096;
 
 // How many entries more than marks a slice for them has.
 const SPARE: usize = 4;
@@ -115,7 +118,7 @@ fn replay_count(list: &[u8], at: usize, asked: Asked) -> Result<Case, Fault> {
 
 // Replays a case from its set on, which stands at the place `at`.
 fn replay_set(list: &[u8], at: usize, ahead: Ahead) -> Result<Case, Fault> {
-    let set = lists::read_small(list, at, Item::Set, 0, RuleSet::ALL)?;
+    let set = lists::read_small(list, at, Item::Set, 0, lists::ALL_TESTS)?;
     let mut lines = [0.0f64; 3];
     let next = lists::read_row(list, set.next, Item::Limit, &mut lines)?;
     let [ucl, cl, lcl] = lines;

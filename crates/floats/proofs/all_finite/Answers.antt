@@ -10,5 +10,5 @@ use Rattle.floats.proofs.all_finite.Goals as goal
 
 pub returns : goal.returns
 returns c =
-    folded (λ (all : Bool) (v : Float). all && finite v) _ _ (λ all v b f' k. search rules) c.iter.result c.args.values.now c.iter.ensures.rest true _ c.fold.ensures.ran
+    folded (λ (all : Bool) (v : Float). all && finite v) _ _ (λ all v b f' k. search rules) c.iter.result c.args.values.now (search rules) true _ c.fold.ensures.ran
     ∙ all_finite-fold true c.args.values.now
