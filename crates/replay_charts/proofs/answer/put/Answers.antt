@@ -2,6 +2,7 @@
 use mathlib.Core.Path.{◌≡◌, sym, ap, ◌∙◌}
 use mathlib.Core.Bool.{true, false}
 use mathlib.Core.List.{[], ◌∷◌, ◌++◌}
+use borrow.Author.Rules.{rules}
 use Rattle.std.proofs.lemmas.Result.{on_ok_weaker}
 use Rattle.groups.specs.Groups.{groups}
 use Rattle.lists.proofs.InGroups.{put_one, put_then}
@@ -24,7 +25,8 @@ returns-in-Err c =
     let old = c.args.ours.now in
     let why = c.in-Err.why in
     let told_is = c.from.ensures ∙ c.number.ensures ∙ ap told c.in-Err.is in
-    let follow : apart (number why) ≡ true = sym c.apart.ensures ∙ c.if-apart.true in
+    let asked : c.from-in-Err-1.result ≡ number why = search rules in
+    let follow : apart (number why) ≡ true = ap apart (sym asked) ∙ sym c.apart.ensures ∙ c.if-apart.true in
     rw (c.in-Err.is, follow)
     (on_ok_weaker c.put_figures.result
     (put_then old (number why ∷ []) (figures_of c.args.answers)
@@ -37,5 +39,6 @@ returns-in-Err-2 c =
     let old = c.args.ours.now in
     let why = c.in-Err.why in
     let told_is = c.from.ensures ∙ c.number.ensures ∙ ap told c.in-Err.is in
-    let alone : apart (number why) ≡ false = sym c.apart.ensures ∙ c.if-apart.false in
+    let asked : c.from-in-Err-1.result ≡ number why = search rules in
+    let alone : apart (number why) ≡ false = ap apart (sym asked) ∙ sym c.apart.ensures ∙ c.if-apart.false in
     rw (c.in-Err.is, alone) (put_one old (number why) (c.in_ok-put.ensures ∙ ap (λ n. old ++ groups n) told_is))
