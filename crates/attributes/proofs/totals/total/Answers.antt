@@ -13,4 +13,5 @@ sum-requires-clause-fits c =
 pub returns : goal.returns
 returns c =
     let counts = c.args.counts.now in
-    sum_from_yields_List c.iter.result _ c.sum.ensures.ran (YieldsList-from_slice counts cc) ∙ total-sum counts
+    let is = sum_from_yields_List c.iter.result _ c.sum.ensures.ran (YieldsList-from_slice counts cc) ∙ total-sum counts in
+    omega (arith, is, total-most counts c.requires.1, c.requires.0)
