@@ -90,10 +90,11 @@ fn put_found(
 fn put(ours: &mut Bytes<LONGEST>, answers: Answers, series: Lent) -> Result<(), TooShort>
     ensures { OnOk result (ours.new ≡ ours.old ++ in_groups (answer_of answers (rows series.entry))) }
 {
-    ours.put(u64::from(answers.evaluated.number()))?;
+    let number = answers.evaluated.number();
+    ours.put(u64::from(number))?;
     match answers.evaluated {
         Ok(found) => put_found(ours, found, answers, series),
-        Err(why) if apart(u16::from(why.number())) => put_figures(ours, answers),
+        Err(_) if apart(u16::from(number)) => put_figures(ours, answers),
         Err(_) => Ok(()),
     }
 }

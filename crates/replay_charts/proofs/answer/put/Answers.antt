@@ -2,7 +2,6 @@
 use mathlib.Core.Path.{◌≡◌, sym, ap, ◌∙◌}
 use mathlib.Core.Bool.{true, false}
 use mathlib.Core.List.{[], ◌∷◌, ◌++◌}
-use borrow.Author.Rules.{rules}
 use Rattle.std.proofs.lemmas.Result.{on_ok_weaker}
 use Rattle.groups.specs.Groups.{groups}
 use Rattle.lists.proofs.InGroups.{put_one, put_then}
@@ -15,7 +14,7 @@ pub returns-in-Ok : goal.returns-in-Ok
 unfolding answer_of
 returns-in-Ok c =
     let old = c.args.ours.now in
-    let told_is = c.from.ensures ∙ c.number.ensures ∙ ap told c.in-Ok.is in
+    let told_is = c.from.ensures ∙ c.number-number.ensures ∙ ap told c.in-Ok.is in
     rw c.in-Ok.is
     (on_ok_weaker c.put_found.result (put_then old (0 ∷ []) _ (put_one old 0 (c.in_ok-put.ensures ∙ ap (λ n. old ++ groups n) told_is))) c.put_found.ensures)
 
@@ -23,9 +22,9 @@ pub returns-in-Err : goal.returns-in-Err
 unfolding answer_of
 returns-in-Err c =
     let old = c.args.ours.now in
-    let why = c.in-Err.why in
-    let told_is = c.from.ensures ∙ c.number.ensures ∙ ap told c.in-Err.is in
-    let asked : c.from-in-Err-1.result ≡ number why = search rules in
+    let why = c.in-Err.field-0 in
+    let told_is = c.from.ensures ∙ c.number-number.ensures ∙ ap told c.in-Err.is in
+    let asked = c.from-in-Err-1.ensures ∙ c.number-number.ensures ∙ ap told c.in-Err.is in
     let follow : apart (number why) ≡ true = ap apart (sym asked) ∙ sym c.apart.ensures ∙ c.if-apart.true in
     rw (c.in-Err.is, follow)
     (on_ok_weaker c.put_figures.result
@@ -37,8 +36,8 @@ pub returns-in-Err-2 : goal.returns-in-Err-2
 unfolding answer_of
 returns-in-Err-2 c =
     let old = c.args.ours.now in
-    let why = c.in-Err.why in
-    let told_is = c.from.ensures ∙ c.number.ensures ∙ ap told c.in-Err.is in
-    let asked : c.from-in-Err-1.result ≡ number why = search rules in
+    let why = c.in-Err.field-0 in
+    let told_is = c.from.ensures ∙ c.number-number.ensures ∙ ap told c.in-Err.is in
+    let asked = c.from-in-Err-1.ensures ∙ c.number-number.ensures ∙ ap told c.in-Err.is in
     let alone : apart (number why) ≡ false = ap apart (sym asked) ∙ sym c.apart.ensures ∙ c.if-apart.false in
     rw (c.in-Err.is, alone) (put_one old (number why) (c.in_ok-put.ensures ∙ ap (λ n. old ++ groups n) told_is))
